@@ -1,0 +1,46 @@
+// Judges the invoice on standard input by the catalogues in catalogos.txt, and prints what it found.
+use rules::Fault;
+use rules::FaultDisplay;
+use std::fs::File;
+use std::io;
+use std::io::Read;
+
+/// One byte more than a document or a catalogue text may have, which is enough to tell that it is too long.
+const ENOUGH: u64 = 65_537;
+
+/// Reads a file or a stream as far as a judgement needs it.
+fn read<R: Read + Drop>(rt: &LibcRuntime, from: R) -> io::Result<Vec<u8>> {
+    let mut bytes = Vec::new(rt.alloc());
+    let _ = from.take(ENOUGH).read_to_end(&mut bytes)?;
+    Ok(bytes)
+}
+
+fn read_catalogues(rt: &LibcRuntime) -> io::Result<Vec<u8>> {
+    read(rt, File::open(rt, "catalogos.txt")?)
+}
+
+/// Says on standard error why there is no verdict.
+fn explain<T: Drop>(rt: &LibcRuntime, what: &str, outcome: io::Result<T>) -> io::Result<T> {
+    if let Err(e) = &outcome {
+        eprintln!(rt, "cadena: {what}: {e}")?;
+    }
+    outcome
+}
+
+fn judge(document: &[u8]) -> Result<(), Fault> {
+    letters::check(document)
+}
+
+fn run(rt: &LibcRuntime) -> io::Result<()> {
+    let _catalogues = explain(rt, "catalogos.txt cannot be read", read_catalogues(rt))?;
+    let document = explain(rt, "the document cannot be read", read(rt, rt.stdin()))?;
+    let verdict = match judge(&document) {
+        Ok(()) => println!(rt, "letters judged: good"),
+        Err(fault) => println!(rt, "{fault}"),
+    };
+    explain(rt, "the verdict cannot be printed", verdict)
+}
+
+fn main(rt: LibcRuntime) -> io::Result<()> {
+    run(&rt)
+}

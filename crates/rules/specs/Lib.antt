@@ -1,0 +1,14 @@
+pub mod Bytes
+pub mod Letters
+pub mod Markup
+pub mod Located
+pub mod Kept
+pub mod Kinds
+pub mod Schema
+pub mod Values
+pub mod Texts
+pub mod Accounts
+pub mod Faults
+pub mod Catalogues
+pub mod Grounds
+pub mod Examples
