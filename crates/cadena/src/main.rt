@@ -28,14 +28,15 @@ fn explain<T: Drop>(rt: &LibcRuntime, what: &str, outcome: io::Result<T>) -> io:
 }
 
 fn judge(document: &[u8]) -> Result<(), Fault> {
-    letters::check(document)
+    letters::check(document)?;
+    markup::check(document)
 }
 
 fn run(rt: &LibcRuntime) -> io::Result<()> {
     let _catalogues = explain(rt, "catalogos.txt cannot be read", read_catalogues(rt))?;
     let document = explain(rt, "the document cannot be read", read(rt, rt.stdin()))?;
     let verdict = match judge(&document) {
-        Ok(()) => println!(rt, "letters judged: good"),
+        Ok(()) => println!(rt, "letters and markup judged: good"),
         Err(fault) => println!(rt, "{fault}"),
     };
     explain(rt, "the verdict cannot be printed", verdict)

@@ -1,0 +1,9 @@
+pub mod Scanning
+pub mod Leads
+pub mod Accepts
+pub mod Completes
+pub mod Rebuilds
+pub mod Steps
+pub mod Verdict
+pub mod Decided
+pub mod Parts

@@ -1,0 +1,5 @@
+pub mod Tags
+pub mod Machine
+pub mod Scans
+pub mod Reads
+pub mod Laws
