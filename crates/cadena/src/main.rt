@@ -27,15 +27,17 @@ fn explain<T: Drop>(rt: &LibcRuntime, what: &str, outcome: io::Result<T>) -> io:
     outcome
 }
 
-fn judge(document: &[u8]) -> Result<(), Fault> {
+/// Judges the catalogue text and then the document, as far as it is built.
+fn judge(catalogue_text: &[u8], document: &[u8]) -> Result<(), Fault> {
+    catalogues::check(catalogue_text)?;
     letters::check(document)?;
     markup::check(document)
 }
 
 fn run(rt: &LibcRuntime) -> io::Result<()> {
-    let _catalogues = explain(rt, "catalogos.txt cannot be read", read_catalogues(rt))?;
+    let catalogue_text = explain(rt, "catalogos.txt cannot be read", read_catalogues(rt))?;
     let document = explain(rt, "the document cannot be read", read(rt, rt.stdin()))?;
-    let verdict = match judge(&document) {
+    let verdict = match judge(&catalogue_text, &document) {
         Ok(()) => println!(rt, "letters and markup judged: good"),
         Err(fault) => println!(rt, "{fault}"),
     };

@@ -1,0 +1,4 @@
+pub mod Reading
+pub mod Pieces
+pub mod Classes
+pub mod Characters

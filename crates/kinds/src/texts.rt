@@ -1,0 +1,79 @@
+// Values that are fixed to the letter, and texts of so many characters.
+ghost use mathlib.Core.Path.{_≡_};
+ghost use Rattle.rules.specs.Bytes.{same};
+ghost use Rattle.rules.specs.Kinds.{fixed-text, admits};
+ghost use Rattle.rules.specs.declared.schema.Kind.the-variants.{Text};
+ghost use Rattle.kinds.specs.Characters.{to-come};
+ghost use Rattle.kinds.specs.Reading.{rest};
+use crate::kept::Kept;
+use crate::kept::KeptIterator;
+use rules::FixedText;
+
+// How a fixed text is written.
+pub fn fixed_text(fixed: FixedText) -> &'static [u8]
+    ensures { λ r. ⌜ now r ≡ fixed-text fixed ⌝ }
+{
+    match fixed {
+        FixedText::Version => b"4.0",
+        FixedText::CfdiNamespace => b"http://www.sat.gob.mx/cfd/4",
+        FixedText::XsiNamespace => b"http://www.w3.org/2001/XMLSchema-instance",
+        FixedText::SchemaLocation =>
+            b"http://www.sat.gob.mx/cfd/4 http://www.sat.gob.mx/sitio_internet/cfd/4/cfdv40.xsd",
+    }
+}
+
+// Whether what is left of a kept form is just a text.
+pub fn is_same(mut left: Kept, text: &[u8]) -> bool
+    ensures { λ r. ⌜ r ≡ same (rest (left .entry)) (now (text .entry)) ⌝ }
+{
+    for t in text {
+        let Some(b) = left.next() else {
+            return false;
+        };
+        if b != *t {
+            return false;
+        }
+    }
+    match left.next() {
+        Some(_) => false,
+        None => true,
+    }
+}
+
+// How many bytes of a character follow `b`, where `more` were to come before it.
+fn to_come(more: u8, b: u8) -> u8
+    ensures { λ r. ⌜ r ≡ to-come more b ⌝ }
+{
+    if more > 0 {
+        more - 1
+    } else if b < 0x80 {
+        0
+    } else if b < 0xE0 {
+        1
+    } else if b < 0xF0 {
+        2
+    } else {
+        3
+    }
+}
+
+// One to so many characters, none of them '|'.
+pub fn is_text(left: Kept, most: u16) -> bool
+    ensures { λ r. ⌜ r ≡ admits (Text most) (rest (left .entry)) ⌝ }
+{
+    let mut count: u16 = 0;
+    let mut more = 0;
+    for b in left {
+        if b == b'|' {
+            return false;
+        }
+        more = to_come(more, b);
+        if more == 0 {
+            if count >= most {
+                return false;
+            }
+            count += 1;
+        }
+    }
+    count > 0
+}

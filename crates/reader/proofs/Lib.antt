@@ -1,0 +1,10 @@
+pub mod Steps
+pub mod Levels
+pub mod Firsts
+pub mod Rows
+pub mod Judged
+pub mod NameRows
+pub mod NamesPass
+pub mod Slotted
+pub mod NamesFirst
+pub mod NamesApart

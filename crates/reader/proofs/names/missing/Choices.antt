@@ -1,0 +1,13 @@
+use Prim.Native.Nat.{_-_}
+use mathlib.Core.Path.{_≡_}
+use mathlib.Core.List.{map}
+use lib.ListN.{length, drop}
+use Rattle.schema.specs.Meant.{row-meant}
+use Rattle.reader.specs.Names.{lacks}
+use Rattle.reader.proofs.names.missing.Given as given
+
+abbrev pub Inv-loop-row : given.InvT-loop-row
+Inv-loop-row l = lacks (map row-meant (l .rows)) 0 (l .slots .spans) ≡ lacks (drop (l .row) (map row-meant (l .rows))) (l .row) (l .slots .spans)
+
+abbrev pub μ-loop-row : given.MeasureT-loop-row
+μ-loop-row l = length (l .rows) - l .row

@@ -1,0 +1,15 @@
+use Prim.Native.Nat.{_-_}
+use mathlib.Core.Path.{_≡_}
+use mathlib.Core.List.{map}
+use lib.ListN.{length, drop}
+use Rattle.schema.specs.Meant.{child-meant}
+use Rattle.reader.specs.Tree.{step}
+use Rattle.reader.proofs.nodes.step.Given as given
+
+abbrev pub Inv-loop-row : given.InvT-loop-row
+Inv-loop-row l =
+    step (drop (l .entry .row) (map child-meant (l .rows))) (l .entry .row) (l .entry .count) (l .name)
+    ≡ step (drop (l .row) (map child-meant (l .rows))) (l .row) (l .count) (l .name)
+
+abbrev pub μ-loop-row : given.MeasureT-loop-row
+μ-loop-row l = length (l .rows) - l .row

@@ -1,0 +1,4 @@
+pub mod Sinks
+pub mod Staying
+pub mod Writers
+pub mod Counts

@@ -1,0 +1,12 @@
+use Prim.Native.Nat.{_+_, _-_, _≤_}
+use mathlib.Core.Path.{_≡_}
+use lib.ListN.{length, drop}
+use Rattle.rules.specs.Bytes.{blank}
+use Rattle.tags.specs.Scan.{front}
+use Rattle.tags.proofs.scan.skip_blanks.Given as given
+
+abbrev pub Inv-loop-i : given.InvT-loop-i
+Inv-loop-i l = (l .at ≤ length (l .document) → l .i ≤ length (l .document)) × (l .at + front blank (drop (l .at) (l .document)) ≡ l .i + front blank (drop (l .i) (l .document)))
+
+abbrev pub μ-loop-i : given.MeasureT-loop-i
+μ-loop-i l = length (l .document) - l .i

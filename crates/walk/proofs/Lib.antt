@@ -1,0 +1,8 @@
+pub mod Passing
+pub mod Leaving
+pub mod Entering
+pub mod Into
+pub mod Turning
+pub mod Starting
+pub mod Totals
+pub mod Stands
