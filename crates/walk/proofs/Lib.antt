@@ -4,5 +4,4 @@ pub mod Entering
 pub mod Into
 pub mod Turning
 pub mod Starting
-pub mod Totals
 pub mod Stands

@@ -1,10 +1,8 @@
 // A cursor over the nodes of a document, in document order.
-mod counting;
 mod cursor;
 mod event;
 mod turn;
 
-pub use counting::count;
 pub use cursor::Walk;
 pub use cursor::opens_each_node;
 pub use event::Event;
