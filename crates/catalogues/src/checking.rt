@@ -44,7 +44,7 @@ fn next_line(
 }
 
 /// Makes the index of a catalogue text: the number of its lines of facts, or the first fault.
-pub fn make_index(text: &[u8], index: &mut [u16; MOST_LINES]) -> Result<usize, Fault>
+pub(crate) fn make_index(text: &[u8], index: &mut [u16; MOST_LINES]) -> Result<usize, Fault>
     ensures { λ r. ⌜ Makes (now (text .entry)) (now (index .exit)) r ⌝ }
 {
     if text.len() > MOST_BYTES || line_feeds(text) > MOST_LINES || !has_header(text) {

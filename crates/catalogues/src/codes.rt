@@ -6,7 +6,7 @@ ghost use Rattle.rules.specs.Kinds.{code-ok};
 use rules::Catalogue;
 
 /// Whether the text is a code: 1 to 10 ASCII letters or digits.
-pub fn is_code(text: &[u8]) -> bool
+pub(crate) fn is_code(text: &[u8]) -> bool
     ensures { λ r. ⌜ r ≡ code-ok (now (text .entry)) ⌝ }
 {
     if text.len() < 1 || text.len() > 10 {
@@ -21,7 +21,7 @@ pub fn is_code(text: &[u8]) -> bool
 }
 
 /// Whether the text is made of ASCII digits alone.
-pub fn all_digits(text: &[u8]) -> bool
+pub(crate) fn all_digits(text: &[u8]) -> bool
     ensures { λ r. ⌜ r ≡ all asciiDigit (now (text .entry)) ⌝ }
 {
     for b in text {
@@ -33,7 +33,7 @@ pub fn all_digits(text: &[u8]) -> bool
 }
 
 /// Whether two texts have the same bytes.
-pub fn is_same(a: &[u8], b: &[u8]) -> bool
+pub(crate) fn is_same(a: &[u8], b: &[u8]) -> bool
     ensures { λ r. ⌜ r ≡ same (now (a .entry)) (now (b .entry)) ⌝ }
 {
     a == b

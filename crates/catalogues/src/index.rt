@@ -41,7 +41,7 @@ fn compare_at(text: &[u8], at: usize, key: &[u8]) -> Ordering
 }
 
 /// Where a key stands among the first `count` lines of an index, or where it would stand.
-pub fn search(text: &[u8], index: &[u16], count: usize, key: &[u8]) -> Result<usize, usize>
+pub(crate) fn search(text: &[u8], index: &[u16], count: usize, key: &[u8]) -> Result<usize, usize>
     requires inside { ⌜ count ≤ length (now index) ⌝ }
     requires lines { ⌜ ((i : ℕ) → i < count → (getD (now index) i 0 ≤ length (now text)) × (2 ≤ length (line-at (now text) (getD (now index) i 0)))) ⌝ }
     requires ordered { ⌜ Ascends (now text) (now index) count ⌝ }
@@ -61,7 +61,7 @@ pub fn search(text: &[u8], index: &[u16], count: usize, key: &[u8]) -> Result<us
 }
 
 /// Puts a value at a place among the first `count` of an index, before those that stand there.
-pub fn insert(index: &mut [u16], count: usize, place: usize, value: u16)
+pub(crate) fn insert(index: &mut [u16], count: usize, place: usize, value: u16)
     requires inside { ⌜ count < length (now index) ⌝ }
     requires among { ⌜ place ≤ count ⌝ }
     ensures { λ _. ⌜ Inserted count place value (now (index .entry)) (now (index .exit)) ⌝ }

@@ -29,7 +29,7 @@ const CATALOGUES: [Catalogue; 14] = [
 ];
 
 /// The name under which the lines of a catalogue stand.
-pub fn name_of(catalogue: Catalogue) -> &'static [u8]
+pub(crate) fn name_of(catalogue: Catalogue) -> &'static [u8]
     ensures { λ r. ⌜ now r ≡ catalogue-name catalogue ⌝ }
 {
     match catalogue {
@@ -71,7 +71,7 @@ fn is_name(text: &[u8]) -> bool
 }
 
 /// Where a byte stands first, from `at` on, or the length of the text.
-pub fn skip_to(text: &[u8], at: usize, byte: u8) -> usize
+pub(crate) fn skip_to(text: &[u8], at: usize, byte: u8) -> usize
     requires { ⌜ at ≤ length (now text) ⌝ }
     ensures is { λ r. ⌜ r ≡ at + length (until byte (drop at (now (text .entry)))) ⌝ }
     ensures within { λ r. ⌜ r ≤ length (now (text .entry)) ⌝ }
@@ -95,7 +95,7 @@ fn is_pair(text: &[u8]) -> bool
 }
 
 /// Whether a line tells a fact: catalogue, code and a digit 0 to 6, with `|` between them.
-pub fn is_fact(line: &[u8]) -> bool
+pub(crate) fn is_fact(line: &[u8]) -> bool
     ensures { λ r. ⌜ r ≡ fact-line (now (line .entry)) ⌝ }
 {
     let n = line.len();
@@ -106,7 +106,7 @@ pub fn is_fact(line: &[u8]) -> bool
 }
 
 /// How many line feeds a text has.
-pub fn line_feeds(text: &[u8]) -> usize
+pub(crate) fn line_feeds(text: &[u8]) -> usize
     ensures { λ r. ⌜ r ≡ length (ended-lines (now (text .entry))) ⌝ }
 {
     let mut n = 0;
@@ -119,7 +119,7 @@ pub fn line_feeds(text: &[u8]) -> usize
 }
 
 /// Whether the first line is ended, and is the one that every catalogue text has.
-pub fn has_header(text: &[u8]) -> bool
+pub(crate) fn has_header(text: &[u8]) -> bool
     ensures { λ r. ⌜ r ≡ header-there (now (text .entry)) ⌝ }
 {
     let end = skip_to(text, 0, b'\n');

@@ -49,7 +49,7 @@ impl Class {
 }
 
 // The number that a text of digits writes.
-pub fn numeral(text: &[u8]) -> Option<u64>
+pub(crate) fn numeral(text: &[u8]) -> Option<u64>
     requires { ⌜ length (now text) ≤ 10 ⌝ }
     ensures { λ r. ⌜ BySome r (all asciiDigit (now (text .entry)) ≡ false) (λ n. (all asciiDigit (now (text .entry)) ≡ true) × (n ≡ number (now (text .entry))) × (n < 10 ^ length (now (text .entry)))) ⌝ }
 {
@@ -64,7 +64,7 @@ pub fn numeral(text: &[u8]) -> Option<u64>
 }
 
 // The number that the digits at a place of a text write, if it is from `low` to `high`.
-pub fn numeral_in(text: &[u8], from: usize, size: usize, low: u64, high: u64) -> Option<u64>
+pub(crate) fn numeral_in(text: &[u8], from: usize, size: usize, low: u64, high: u64) -> Option<u64>
     requires { ⌜ from + size ≤ length (now text) ⌝ ∗ ⌜ size ≤ 10 ⌝ }
     ensures { λ r. ⌜ BySome r (numeral-in low high (part from size (now (text .entry))) ≡ false) (λ n. (numeral-in low high (part from size (now (text .entry))) ≡ true) × (n ≡ number (part from size (now (text .entry))))) ⌝ }
 {

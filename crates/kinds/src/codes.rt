@@ -9,7 +9,7 @@ use crate::classes::Class;
 use crate::pieces::piece;
 
 // One to ten ASCII letters or digits.
-pub fn is_code(text: &[u8]) -> bool
+pub(crate) fn is_code(text: &[u8]) -> bool
     ensures { λ r. ⌜ r ≡ code-ok (now (text .entry)) ⌝ }
 {
     text.len() >= 1 && text.len() <= 10 && Class::Alphanumeric.has_all(text)
@@ -24,21 +24,21 @@ pub fn code(raw: &[u8]) -> Option<&[u8]>
 }
 
 // So many digits.
-pub fn is_digits(text: &[u8], count: u8) -> bool
+pub(crate) fn is_digits(text: &[u8], count: u8) -> bool
     ensures { λ r. ⌜ r ≡ admits (Digits count) (now (text .entry)) ⌝ }
 {
     text.len() == count as usize && Class::Digit.has_all(text)
 }
 
 // Five ASCII letters or digits.
-pub fn is_mark(text: &[u8]) -> bool
+pub(crate) fn is_mark(text: &[u8]) -> bool
     ensures { λ r. ⌜ r ≡ admits Mark (now (text .entry)) ⌝ }
 {
     text.len() == 5 && Class::Alphanumeric.has_all(text)
 }
 
 // Bytes of base 64, perhaps none.
-pub fn is_seal(text: &[u8]) -> bool
+pub(crate) fn is_seal(text: &[u8]) -> bool
     ensures { λ r. ⌜ r ≡ admits Seal (now (text .entry)) ⌝ }
 {
     Class::Base64.has_all(text)

@@ -57,7 +57,7 @@ fn is_time(text: &[u8]) -> bool
 }
 
 // A day, 'T' and a time.
-pub fn is_date_time(text: &[u8]) -> bool
+pub(crate) fn is_date_time(text: &[u8]) -> bool
     ensures { λ r. ⌜ r ≡ date-time-ok (now (text .entry)) ⌝ }
 {
     if text.len() != 19 {

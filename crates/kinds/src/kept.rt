@@ -49,7 +49,7 @@ fn letter(raw: &[u8], at: usize) -> (u8, usize)
 }
 
 // Whether a byte is a space, a tab or an end of line.
-pub fn is_blank(b: u8) -> bool
+pub(crate) fn is_blank(b: u8) -> bool
     ensures { λ r. ⌜ r ≡ blank b ⌝ }
 {
     b == b' ' || b == b'\t' || b == b'\n' || b == b'\r'

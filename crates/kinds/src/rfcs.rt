@@ -79,7 +79,7 @@ fn is_rfc_after(mut left: Kept, letters: usize) -> bool
 }
 
 // Three letters for a company or four for a person, and then the nine characters.
-pub fn is_rfc(raw: &[u8]) -> bool
+pub(crate) fn is_rfc(raw: &[u8]) -> bool
     ensures { λ r. ⌜ r ≡ admits Rfc (keptForm (resolved (now (raw .entry)))) ⌝ }
 {
     is_rfc_after(Kept::new(raw), 3) || is_rfc_after(Kept::new(raw), 4)

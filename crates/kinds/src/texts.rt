@@ -10,7 +10,7 @@ use crate::kept::KeptIterator;
 use rules::FixedText;
 
 // How a fixed text is written.
-pub fn fixed_text(fixed: FixedText) -> &'static [u8]
+pub(crate) fn fixed_text(fixed: FixedText) -> &'static [u8]
     ensures { λ r. ⌜ now r ≡ fixed-text fixed ⌝ }
 {
     match fixed {
@@ -23,7 +23,7 @@ pub fn fixed_text(fixed: FixedText) -> &'static [u8]
 }
 
 // Whether what is left of a kept form is just a text.
-pub fn is_same(mut left: Kept, text: &[u8]) -> bool
+pub(crate) fn is_same(mut left: Kept, text: &[u8]) -> bool
     ensures { λ r. ⌜ r ≡ same (rest (left .entry)) (now (text .entry)) ⌝ }
 {
     for t in text {
@@ -58,7 +58,7 @@ fn to_come(more: u8, b: u8) -> u8
 }
 
 // One to so many characters, none of them '|'.
-pub fn is_text(left: Kept, most: u16) -> bool
+pub(crate) fn is_text(left: Kept, most: u16) -> bool
     ensures { λ r. ⌜ r ≡ admits (Text most) (rest (left .entry)) ⌝ }
 {
     let mut count: u16 = 0;

@@ -6,21 +6,21 @@ ghost use Rattle.rules.specs.Bytes.{blank, name-byte};
 ghost use Rattle.markup.specs.Scans.{Skips, Shares};
 
 /// Whether a byte is a blank.
-pub fn is_blank(b: u8) -> bool
+pub(crate) fn is_blank(b: u8) -> bool
     ensures { λ r. ⌜ r ≡ blank b ⌝ }
 {
     matches!(b, b' ' | b'\t' | b'\r' | b'\n')
 }
 
 /// Whether a byte may stand in a name.
-pub fn is_name_byte(b: u8) -> bool
+pub(crate) fn is_name_byte(b: u8) -> bool
     ensures { λ r. ⌜ r ≡ name-byte b ⌝ }
 {
     matches!(b, b'a'..=b'z' | b'A'..=b'Z' | b'0'..=b'9' | b':' | b'_' | b'-' | b'.' | 128..)
 }
 
 /// Where the blanks from `at` on end.
-pub fn skip_blanks(doc: &[u8], at: usize) -> usize
+pub(crate) fn skip_blanks(doc: &[u8], at: usize) -> usize
     requires { ⌜ at ≤ length (now doc) ⌝ }
     ensures { λ r. ⌜ Skips blank (now (doc .entry)) at r ⌝ }
 {
@@ -32,7 +32,7 @@ pub fn skip_blanks(doc: &[u8], at: usize) -> usize
 }
 
 /// Where the name from `at` on ends.
-pub fn skip_name(doc: &[u8], at: usize) -> usize
+pub(crate) fn skip_name(doc: &[u8], at: usize) -> usize
     requires { ⌜ at ≤ length (now doc) ⌝ }
     ensures { λ r. ⌜ Skips name-byte (now (doc .entry)) at r ⌝ }
 {
@@ -44,7 +44,7 @@ pub fn skip_name(doc: &[u8], at: usize) -> usize
 }
 
 /// How many bytes from `at` on are those of `text`.
-pub fn shared(doc: &[u8], at: usize, text: &[u8]) -> usize
+pub(crate) fn shared(doc: &[u8], at: usize, text: &[u8]) -> usize
     requires { ⌜ at ≤ length (now doc) ⌝ }
     ensures { λ r. ⌜ Shares (now (doc .entry)) at (now (text .entry)) r ⌝ }
 {
