@@ -25,41 +25,6 @@ use Rattle.theory.proofs.Unique.{content-on-is}
 use Rattle.reader.proofs.Firsts.{first, located-spread}
 use Rattle.reader.proofs.Rows.{Track, start, ended, unplaced, next}
 
--- no element begins with '<?'
-no-mark : (b r : List ℕ) (t : Tag) (z : List ℕ) → all blank b ≡ true → tag-ok t ≡ true → b ++ tag-on t z ≡ 60 ∷ 63 ∷ r → ⊥
-no-mark (x ∷ b) r t z h k e = false≢true (ap blank (sym (cons-head e)) ∙ and-parts _ _ h .0)
-no-mark [] r t z h k e = go (t .name) _ (and-parts _ _ k .0) (cons-tail e)
-  where
-    go : (n s : List ℕ) → name-ok n ≡ true → n ++ s ≡ 63 ∷ r → ⊥
-    go [] s h e = false≢true h
-    go (c ∷ cs) s h e = false≢true (ap name-byte (sym (cons-head e)) ∙ and-parts _ _ h .0)
-
-undeclared : (c : Content) (r : List ℕ) → content-ok 6 c ≡ true → eqb (elements c) 1 ≡ true → content-on c [] ≡ 60 ∷ 63 ∷ r → ⊥
-undeclared (end b) r h k e = false≢true k
-undeclared (empty b t after) r h k e = let (u, v) = and-parts (all blank b) _ h in no-mark b r t _ u (and-parts (tag-ok t) _ v .0) e
-undeclared (full b t inside c after) r h k e = let (u, v) = and-parts (all blank b) _ h in no-mark b r t _ u (and-parts (tag-ok t) _ v .0) e
-
--- where the elements begin
-module _ (d : List ℕ) (m : Document) (k : Marks d m) where
-  shown : (b : Bool) → m .declared ≡ b → d ≡ cond b declaration [] ++ text (m .content)
-  shown b e = sym (k .1) ∙ ap (λ x. cond x declaration [] ++ text (m .content)) e
-
-  pub declared : take (length declaration) d ≡ declaration → length declaration ≡ length (head m)
-  declared h = go (m .declared) refl
-    where
-      go : (b : Bool) → m .declared ≡ b → length declaration ≡ length (head m)
-      go true e = ap (λ x. length (cond x declaration [])) (sym e)
-      go false e =
-          absurd (undeclared (m .content) _ (and-parts _ _ (k .0) .0) (and-parts _ _ (k .0) .1)
-          (sym (content-on-is (m .content) []) ∙ append-nil (text (m .content)) ∙ sym (shown false e) ∙ sym (take-append-drop (length declaration) d) ∙ ap (λ x. x ++ drop (length declaration) d) h))
-
-  pub not-declared : (take (length declaration) d ≡ declaration → ⊥) → 0 ≡ length (head m)
-  not-declared h = go (m .declared) refl
-    where
-      go : (b : Bool) → m .declared ≡ b → 0 ≡ length (head m)
-      go true e = absurd (h (ap (take (length declaration)) (shown true e) ∙ take-at declaration (text (m .content)) (length declaration) refl))
-      go false e = ap (λ x. length (cond x declaration [])) (sym e)
-
 fault-answer : (o : Option Fault) (e : ℕ) → fault-of (answer o e) ≡ o
 fault-answer None e = refl
 fault-answer (Some f) e = refl

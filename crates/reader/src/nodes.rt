@@ -21,11 +21,10 @@ use schema::needs_child;
 use schema::tag;
 use tags::after;
 use tags::closing;
+use tags::content_start;
 use tags::skip_blanks;
 use tags::skip_name;
 use tags::tag_end;
-
-const DECLARATION: &[u8] = b"<?xml version=\"1.0\" encoding=\"UTF-8\"?>";
 
 /// How far the children of a node have come: the row of the last one, and how many of it there are.
 #[derive(Clone, Copy)]
@@ -133,22 +132,10 @@ fn level(document: &[u8], at: usize, under: Option<Node>, depth: u8) -> Result<u
     }
 }
 
-/// Where the elements of a document begin: after the declaration, if it begins with that.
-fn elements_at(document: &[u8]) -> usize
-    ensures within { λ r. ⌜ r ≤ length (now (document .entry)) ⌝ }
-    ensures is { λ r. ⌜ ((m : Document) → Marks (now (document .entry)) m → r ≡ length (head m)) ⌝ }
-{
-    if document.starts_with(DECLARATION) {
-        DECLARATION.len()
-    } else {
-        0
-    }
-}
-
 /// Judges the tree of a document: the first node that is misplaced or unfinished, where the document is well-marked.
 pub fn tree(document: &[u8]) -> Result<(), Fault>
     ensures { λ r. ⌜ ((m : Document) → Marks (now (document .entry)) m → Judgement (TreeFault None [] (length (now (document .entry))) (elements-of m)) (fault-of r)) ⌝ }
 {
-    level(document, elements_at(document), None, 6)?;
+    level(document, content_start(document), None, 6)?;
     Ok(())
 }

@@ -1,6 +1,7 @@
 //! Going through the tags of a document: blanks, names, attributes and the ends of tags.
 mod attributes;
 mod scan;
+mod start;
 #[cfg(test)]
 mod tests;
 
@@ -19,3 +20,4 @@ pub use scan::closing;
 pub use scan::skip_blanks;
 pub use scan::skip_name;
 pub use scan::skip_to;
+pub use start::content_start;

@@ -309,7 +309,7 @@ no-declaration [] r t z h k e = go (t .name) (and-parts _ _ k .0) (cons-tail e)
     go (c ∷ cs) k e = let v : name-byte c ≡ true = and-parts _ _ k .0 in let f : 63 ≡ c = cons-head e in false≢true (ap name-byte f ∙ v)
 
 -- no content begins as the declaration does
-undeclared : (c : Content) (r : List ℕ) → marked c ≡ true → eqb (elements c) 1 ≡ true → 60 ∷ 63 ∷ r ≡ content-on c [] → ⊥
+pub undeclared : (c : Content) (r : List ℕ) → marked c ≡ true → eqb (elements c) 1 ≡ true → 60 ∷ 63 ∷ r ≡ content-on c [] → ⊥
 undeclared (end b) r h k e = false≢true k
 undeclared (empty b t after) r h k e = let (u, v) = and-parts _ _ h in no-declaration b r t _ u (and-parts _ _ v .0) e
 undeclared (full b t inside c after) r h k e = let (u, v) = and-parts _ _ h in no-declaration b r t _ u (and-parts _ _ v .0) e

@@ -10,6 +10,7 @@ ghost use Rattle.walk.specs.Coming.{Comes, Gives, InOrder, left};
 use crate::event::Event;
 use crate::turn::advance;
 use rules::Node;
+use tags::content_start;
 
 /// A walk through the nodes of a document, in document order.
 #[derive(Clone, Copy)]
@@ -17,25 +18,6 @@ pub struct Walk<'a> {
     document: &'a [u8],
     at: usize,
     open: Option<Node>,
-}
-
-const DECLARATION: &[u8] = b"<?xml version=\"1.0\" encoding=\"UTF-8\"?>";
-
-/// Where the elements of a document begin, after the declaration if there is one.
-fn content_start(document: &[u8]) -> usize
-    ensures { λ r. ⌜ ((m : Document) → Marks (now (document .entry)) m → r ≡ length (head m)) ⌝ }
-{
-    if document.starts_with(DECLARATION) {
-        return DECLARATION.len();
-    }
-    0
-}
-
-/// A walk opens the nodes that stand in a document, each once and in document order.
-pub fn opens_each_node() -> bool
-    ensures { λ _. ⌜ OpensEachNode ⌝ }
-{
-    true
 }
 
 impl<'a> Walk<'a> {
@@ -62,4 +44,11 @@ impl<'a> Walk<'a> {
         self.open = turn.open;
         Some(turn.event)
     }
+}
+
+/// A walk opens the nodes that stand in a document, each once and in document order.
+pub fn opens_each_node() -> bool
+    ensures { λ _. ⌜ OpensEachNode ⌝ }
+{
+    true
 }

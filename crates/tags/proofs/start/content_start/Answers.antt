@@ -2,8 +2,8 @@ use mathlib.Core.Path.{sym}
 use native.Mathlib.Omega.{arith}
 use Rattle.std.proofs.shelf.Equals.{matches-decides}
 use Rattle.std.proofs.shelf.Tests.{both-ways}
-use Rattle.reader.proofs.Judged.{declared, not-declared}
-use Rattle.reader.proofs.nodes.elements_at.Needs as need
+use Rattle.tags.proofs.Starts.{declared, not-declared}
+use Rattle.tags.proofs.start.content_start.Needs as need
 
 pub returns-then-starts-with : need.returns-then-starts-with
 returns-then-starts-with c = record {
