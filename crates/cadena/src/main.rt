@@ -1,4 +1,6 @@
 // Judges the invoice on standard input by the catalogues in catalogos.txt, and prints what it found.
+use catalogues::CatalogueText;
+use catalogues::TextSet;
 use rules::Fault;
 use rules::FaultDisplay;
 use std::fs::File;
@@ -27,18 +29,19 @@ fn explain<T: Drop>(rt: &LibcRuntime, what: &str, outcome: io::Result<T>) -> io:
     outcome
 }
 
-/// Judges the catalogue text and then the document, as far as it is built.
+/// Judges the catalogue text, and then the document under its set.
 fn judge(catalogue_text: &[u8], document: &[u8]) -> Result<(), Fault> {
     catalogues::check(catalogue_text)?;
-    letters::check(document)?;
-    markup::check(document)
+    let set = CatalogueText::new(catalogue_text);
+    invoice::check(document, &set)?;
+    Ok(())
 }
 
 fn run(rt: &LibcRuntime) -> io::Result<()> {
     let catalogue_text = explain(rt, "catalogos.txt cannot be read", read_catalogues(rt))?;
     let document = explain(rt, "the document cannot be read", read(rt, rt.stdin()))?;
     let verdict = match judge(&catalogue_text, &document) {
-        Ok(()) => println!(rt, "letters and markup judged: good"),
+        Ok(()) => println!(rt, "lawful"),
         Err(fault) => println!(rt, "{fault}"),
     };
     explain(rt, "the verdict cannot be printed", verdict)

@@ -1,26 +1,12 @@
 // Values that are fixed to the letter, and texts of so many characters.
 ghost use mathlib.Core.Path.{_≡_};
 ghost use Rattle.rules.specs.Bytes.{same};
-ghost use Rattle.rules.specs.Kinds.{fixed-text, admits};
+ghost use Rattle.rules.specs.Kinds.{admits};
 ghost use Rattle.rules.specs.declared.schema.Kind.the-variants.{Text};
 ghost use Rattle.kinds.specs.Characters.{to-come};
 ghost use Rattle.kinds.specs.Reading.{rest};
 use crate::kept::Kept;
 use crate::kept::KeptIterator;
-use rules::FixedText;
-
-// How a fixed text is written.
-pub(crate) fn fixed_text(fixed: FixedText) -> &'static [u8]
-    ensures { λ r. ⌜ now r ≡ fixed-text fixed ⌝ }
-{
-    match fixed {
-        FixedText::Version => b"4.0",
-        FixedText::CfdiNamespace => b"http://www.sat.gob.mx/cfd/4",
-        FixedText::XsiNamespace => b"http://www.w3.org/2001/XMLSchema-instance",
-        FixedText::SchemaLocation =>
-            b"http://www.sat.gob.mx/cfd/4 http://www.sat.gob.mx/sitio_internet/cfd/4/cfdv40.xsd",
-    }
-}
 
 // Whether what is left of a kept form is just a text.
 pub(crate) fn is_same(mut left: Kept, text: &[u8]) -> bool

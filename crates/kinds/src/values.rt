@@ -12,7 +12,6 @@ use crate::dates::is_date_time;
 use crate::kept::Kept;
 use crate::pieces::piece;
 use crate::rfcs::is_rfc;
-use crate::texts::fixed_text;
 use crate::texts::is_same;
 use crate::texts::is_text;
 use rules::Kind;
@@ -33,7 +32,7 @@ pub fn admits(kind: Kind, raw: &[u8]) -> bool
     ensures law { λ _. ⌜ KindLaw kind (resolved (now (raw .entry))) ⌝ }
 {
     match kind {
-        Kind::Fixed(text) => is_same(Kept::new(raw), fixed_text(text)),
+        Kind::Fixed(text) => is_same(Kept::new(raw), text.text()),
         Kind::Text(most) => is_text(Kept::new(raw), most),
         Kind::Amount => amount(raw).is_some(),
         Kind::Positive => is_positive(raw),

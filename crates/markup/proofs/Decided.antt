@@ -10,6 +10,10 @@ use Rattle.std.specs.declared.option.Option.the-variants.{Some, None}
 use Rattle.std.proofs.shelf.Lists.{take-all}
 use Rattle.std.proofs.shelf.Tests.{cases-bool}
 use Rattle.rules.specs.Markup.{WellMarked, Viable}
+use Rattle.theory.specs.Grounds.{EveryVerdict}
+use Rattle.theory.proofs.FirstLaws.{one-verdict}
+use Rattle.theory.proofs.Unique.{one-reading}
+use Rattle.theory.proofs.Verdicts.{verdict-from}
 use Rattle.markup.specs.Machine.{Place, fresh, step, run, finished}
 use Rattle.markup.specs.Reads.{Like, Stops}
 use Rattle.markup.specs.Laws.{MarkupDecided, BeginningsLaw}
@@ -40,3 +44,11 @@ viable-or-not u (Some p) e = inl (passed u p e)
 
 pub beginnings : BeginningsLaw
 beginnings = record { empty = passed [] fresh refl; shorter = shorter; completed = λ p v. v; decided = λ p. viable-or-not p (run fresh p) refl }
+
+-- every document has its verdict, and no other
+pub every-verdict : EveryVerdict
+every-verdict facts d = record {
+  verdict = verdict-from facts d (⊎-elim inl (λ x. inr (x .1 .0, x .0, x .1 .1 .0)) (markup-decided d));
+  only-one = one-verdict facts d;
+  one-values = one-reading d .same-values;
+}

@@ -11,4 +11,6 @@ pub mod Accounts
 pub mod Faults
 pub mod Catalogues
 pub mod Grounds
+pub mod Sinks
+pub mod Register
 pub mod Examples

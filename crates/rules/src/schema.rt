@@ -1,4 +1,6 @@
 // The nodes of an invoice, the kinds of their values, and the catalogues of their codes.
+ghost use mathlib.Core.Path.{_≡_};
+ghost use Rattle.rules.specs.Kinds.{fixed-text};
 
 /// The catalogues that codes are looked up in.
 #[derive(Clone, Copy, Debug, PartialEq, Eq)]
@@ -26,6 +28,21 @@ pub enum FixedText {
     CfdiNamespace,
     XsiNamespace,
     SchemaLocation,
+}
+
+impl FixedText {
+    /// The text itself.
+    pub fn text(self) -> &'static [u8]
+        ensures { λ r. ⌜ now r ≡ fixed-text self ⌝ }
+    {
+        match self {
+            FixedText::Version => b"4.0",
+            FixedText::CfdiNamespace => b"http://www.sat.gob.mx/cfd/4",
+            FixedText::XsiNamespace => b"http://www.w3.org/2001/XMLSchema-instance",
+            FixedText::SchemaLocation =>
+                b"http://www.sat.gob.mx/cfd/4 http://www.sat.gob.mx/sitio_internet/cfd/4/cfdv40.xsd",
+        }
+    }
 }
 
 /// The kinds of value that an attribute may have.

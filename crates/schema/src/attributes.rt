@@ -141,16 +141,3 @@ pub fn rows(node: Node) -> &'static [Row]
         Node::Traslados => &[],
     }
 }
-
-/// The bytes of a fixed text.
-pub fn fixed_text(text: FixedText) -> &'static [u8]
-    ensures { λ r. ⌜ now r ≡ fixed-text text ⌝ }
-{
-    match text {
-        FixedText::Version => b"4.0",
-        FixedText::CfdiNamespace => b"http://www.sat.gob.mx/cfd/4",
-        FixedText::XsiNamespace => b"http://www.w3.org/2001/XMLSchema-instance",
-        FixedText::SchemaLocation =>
-            b"http://www.sat.gob.mx/cfd/4 http://www.sat.gob.mx/sitio_internet/cfd/4/cfdv40.xsd",
-    }
-}

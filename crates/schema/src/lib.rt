@@ -3,7 +3,6 @@ mod attributes;
 mod places;
 
 pub use attributes::Row;
-pub use attributes::fixed_text;
 pub use attributes::rows;
 pub use places::Child;
 pub use places::children;

@@ -10,7 +10,7 @@ use lib.Seq.{take-append-add}
 use Rattle.std.proofs.shelf.Lists.{take-all, take-append-le, getD-append-left, getD-append-add, length-append}
 use Rattle.std.proofs.shelf.Tests.{cases-lt, eqb-true, eqb-false, ne-eqb}
 use Rattle.std.proofs.shelf.Ways.{tells}
-use Rattle.sinks.specs.Sinks.{Longest, allows-at}
+use Rattle.rules.specs.Sinks.{Longest, allows-at}
 use Rattle.sinks.specs.Writers.{Writing, Written}
 
 abbrev Rule : Type 0

@@ -11,7 +11,7 @@ use Rattle.std.specs.declared.result.Result.the-variants.{Ok, Err}
 use Rattle.std.proofs.shelf.Lists.{length-take-le}
 use Rattle.rules.specs.declared.grounds.Fault.{Fault}
 use Rattle.rules.specs.declared.grounds.Fault.the-variants.{Stopped}
-use Rattle.sinks.specs.Sinks.{Sent}
+use Rattle.rules.specs.Sinks.{Sent}
 use Rattle.sinks.specs.Staying.{Staying, SentTo}
 use Rattle.sinks.specs.Writers.{Written}
 use Rattle.sinks.specs.Counts.{through}

@@ -15,7 +15,7 @@ use Rattle.std.proofs.shelf.Lists.{length-take-le, take-all, take-append-drop, 
 use Rattle.std.proofs.shelf.Tests.{cases-lt, lt-ltb, ltb-true, ltb-false, eq-eqb, eqb-true, and-from, and-parts, both-ways}
 use Rattle.rules.specs.declared.grounds.Fault.{Fault}
 use Rattle.rules.specs.declared.grounds.Fault.the-variants.{Stopped}
-use Rattle.sinks.specs.Sinks.{Longest, Sent, sent-answer, buffer-rule, matcher-rule}
+use Rattle.rules.specs.Sinks.{Longest, Sent, sent-answer, buffer-rule, matcher-rule}
 use Rattle.sinks.specs.Staying.{RoomStays}
 use Rattle.sinks.specs.Writers.{Written}
 use Rattle.sinks.specs.Counts.{counting}

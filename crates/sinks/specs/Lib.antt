@@ -1,4 +1,3 @@
-pub mod Sinks
 pub mod Staying
 pub mod Writers
 pub mod Counts

@@ -8,7 +8,7 @@ use lib.ListN.{length, drop}
 use lib.Seq.{drop-drop}
 use Rattle.std.specs.declared.result.Result.{Result}
 use Rattle.rules.specs.declared.grounds.Fault.{Fault}
-use Rattle.sinks.specs.Sinks.{Sent}
+use Rattle.rules.specs.Sinks.{Sent}
 
 -- what of a sink stays as it was from one time to a later one
 pub record Staying (S : Type 0) : Type 1 where

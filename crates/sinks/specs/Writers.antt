@@ -5,7 +5,7 @@ use mathlib.Core.List.{List, [], _++_}
 use Prim.Native.Nat.{ℕ}
 use lib.Dec.{eqb}
 use lib.ListN.{length, take}
-use Rattle.sinks.specs.Sinks.{Longest}
+use Rattle.rules.specs.Sinks.{Longest}
 
 -- what a writer means: whether it allows a byte after a text, and how it is after it has taken a text
 pub record Writing (W : Type 0) : Type 1 where

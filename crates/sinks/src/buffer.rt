@@ -4,7 +4,7 @@ ghost use mathlib.Core.List.{[]};
 ghost use Prim.Native.Nat.{ℕ, _≤_};
 ghost use lib.ListN.{length, take};
 ghost use denote.Ref.{now, name};
-ghost use Rattle.sinks.specs.Sinks.{buffer-rule};
+ghost use Rattle.rules.specs.Sinks.{buffer-rule};
 ghost use Rattle.sinks.specs.Staying.{both-stay, room-stays, same-stays};
 use crate::sink::Sink;
 

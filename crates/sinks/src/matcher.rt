@@ -5,7 +5,7 @@ ghost use Prim.Native.Nat.{ℕ, _≤_};
 ghost use lib.ListN.{length, take};
 ghost use denote.Ref.{now};
 ghost use Rattle.std.specs.Orderings.{Decides};
-ghost use Rattle.sinks.specs.Sinks.{matcher-rule};
+ghost use Rattle.rules.specs.Sinks.{matcher-rule};
 ghost use Rattle.sinks.specs.Staying.{same-stays};
 use crate::sink::Sink;
 

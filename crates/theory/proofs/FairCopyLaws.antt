@@ -14,7 +14,7 @@ use Rattle.theory.proofs.LawfulTree.{lawful-whole, never-longer}
 use Rattle.theory.proofs.LawfulValues.{LawfulValues, lawful-values, lawful-from}
 
 -- the values of a lawful document are whole
-whole-values : (facts : Facts) (d : List ℕ) (v : Values) → Lawful facts d → HasValues d v → Whole v
+pub whole-values : (facts : Facts) (d : List ℕ) (v : Values) → Lawful facts d → HasValues d v → Whole v
 whole-values facts d v l h = subst Whole (sym (h .2)) (lawful-whole facts d (h .0) l (h .1))
 
 -- a fair copy of whole values is well-marked
@@ -48,10 +48,12 @@ copy-stays-lawful d v h facts l = lawful-from facts v (subst (LawfulValues facts
 pub copy-never-longer : FairCopyNeverLonger
 copy-never-longer facts d v l h = rw (h .2) (never-longer facts d (h .0) l (h .1))
 
+-- whole values with equal fair copies are equal
+pub equal-copies : (v w : Values) → Whole v → Whole w → fair-copy v ≡ fair-copy w → v ≡ w
+equal-copies v w p q e = same-values (fair-copy w) v w (subst (λ x. HasValues x v) e (copy-has-values v p)) (copy-has-values w q)
+
 -- fair copies are equal exactly when the values are
 pub copy-tells-values : FairCopyTellsValues
 copy-tells-values facts more c d v w l h m k =
-    let p : HasValues (fair-copy v) v = copy-has-values v (whole-values facts c v l h) in
-    let q : HasValues (fair-copy w) w = copy-has-values w (whole-values more d w m k) in
-    let back : fair-copy v ≡ fair-copy w → v ≡ w = λ e. same-values (fair-copy w) v w (subst (λ x. HasValues x v) e p) q in
+    let back : fair-copy v ≡ fair-copy w → v ≡ w = equal-copies v w (whole-values facts c v l h) (whole-values more d w m k) in
     record { exactly = (back, ap fair-copy); same-cadena = λ e. ap cadena (back e) }

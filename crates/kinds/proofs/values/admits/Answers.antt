@@ -26,7 +26,7 @@ some-amount s None h = sym h
 some-amount s (Some a) h = sym (h .0)
 
 pub returns-in-Fixed : need.returns-in-Fixed
-returns-in-Fixed c = judged (c .args .kind) (Fixed (c .in-Fixed .text)) (c .args .raw .now) _ (c .in-Fixed .is) (c .is-same .ensures ∙ ap (λ s. same s (c .fixed-text .result .now)) (c .new .ensures) ∙ ap (λ t. same (kept (resolved (c .args .raw .now))) t) (c .fixed-text .ensures))
+returns-in-Fixed c = judged (c .args .kind) (Fixed (c .in-Fixed .text)) (c .args .raw .now) _ (c .in-Fixed .is) (c .is-same .ensures ∙ ap (λ s. same s (c .text .result .now)) (c .new .ensures) ∙ ap (λ t. same (kept (resolved (c .args .raw .now))) t) (c .text .ensures))
 
 pub returns-in-Text : need.returns-in-Text
 returns-in-Text c = judged (c .args .kind) (Text (c .in-Text .most)) (c .args .raw .now) _ (c .in-Text .is) (let h = c .is-text .ensures in let is = ap (admits (Text (c .in-Text .most))) (c .new-in-Text .ensures) in cc)

@@ -1,6 +1,6 @@
 use mathlib.Core.Path.{sym, ap}
 use Rattle.rules.specs.Kinds.{fixed-text}
-use Rattle.kinds.proofs.texts.fixed_text.Needs as need
+use Rattle.rules.proofs.schema.FixedText.text.Needs as need
 
 pub returns-in-CfdiNamespace : need.returns-in-CfdiNamespace
 returns-in-CfdiNamespace c = sym (ap fixed-text (c .in-CfdiNamespace .is))

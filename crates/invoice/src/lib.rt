@@ -1,0 +1,4 @@
+// The check of an invoice: all layers, one after the other.
+mod checking;
+
+pub use checking::check;

@@ -1,0 +1,4 @@
+pub mod Found
+pub mod Meeting
+pub mod Rooted
+pub mod Layers

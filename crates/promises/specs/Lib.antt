@@ -1,0 +1,2 @@
+pub mod RegisterLaws
+pub mod Stored
