@@ -1,0 +1,5 @@
+pub mod Progress
+pub mod RowTexts
+pub mod Parts
+pub mod Copies
+pub mod Copying

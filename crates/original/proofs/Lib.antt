@@ -1,0 +1,5 @@
+pub mod Joining
+pub mod Walked
+pub mod Rows
+pub mod Opening
+pub mod Passing
