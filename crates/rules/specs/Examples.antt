@@ -61,6 +61,7 @@ with-folio = invoice None (given (codes "A")) (codes "0")
 abbrev pub with-point : Values
 with-point = invoice None None (codes "0.0")
 
+-- the worked examples, together
 pub record Examples : Type 0 where
   -- Serie "A" without Folio and Folio "A" without Serie are different values with one cadena
   pub serie-and-folio : with-serie ≡ with-folio → ⊥

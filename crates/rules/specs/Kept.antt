@@ -44,6 +44,7 @@ resolved-past (suc k) (b ∷ bs) = resolved-past k bs
 abbrev pub resolved : List ℕ → List ℕ
 resolved raw = resolved-past 0 raw
 
+-- what is kept after a byte that is kept
 abbrev mutual
   -- what is kept of a text that follows a kept byte
   pub kept-on : List ℕ → List ℕ

@@ -47,6 +47,7 @@ rooms-stay i j k x y z p q = record {
       q .rest ∙ subst (λ n. drop n y ≡ drop n x) far (sym (drop-drop (k - j) j y) ∙ ap (drop (k - j)) (p .rest) ∙ drop-drop (k - j) j x);
 }
 
+-- of a sink that fills a room from its front, the bytes past those taken stay
 abbrev pub room-stays : {S : Type 0} → (S → ℕ) → (S → List ℕ) → Staying S
 room-stays count room = record {
   since = λ a b. RoomStays (count a) (room a) (count b) (room b);
