@@ -13,8 +13,9 @@ use Rattle.rules.specs.Texts.{cadena, fair-copy}
 use Rattle.rules.specs.Catalogues.{Facts}
 use Rattle.rules.specs.Grounds.{Standing, standing, NamesFault, letters, too-long, tree, names, Lawful, HasValues}
 use Rattle.rules.specs.declared.grounds.Fault.{Fault}
-use Rattle.theory.proofs.FairCopyLaws.{whole-values, copy-never-longer}
+use Rattle.theory.proofs.FairCopyLaws.{whole-values, copy-reads-back, copy-stays-lawful, copy-never-longer}
 use Rattle.walk.specs.Coming.{InOrder}
+use Rattle.texts.specs.Answered.{CopyLaw}
 use Rattle.promises.proofs.CadenaShorter.{cadena-shorter}
 
 module _ (facts : Facts) (d : List ℕ) (l : Lawful facts d) where
@@ -36,3 +37,7 @@ module _ (facts : Facts) (d : List ℕ) (l : Lawful facts d) where
 
   pub cadena-fits : (v : Values) → HasValues d v → length (cadena v) < 2 ^ 64
   cadena-fits v h = let a = cadena-shorter v (whole-values facts d v l h) in let b = copy-within v h in omega arith
+
+-- the laws of the fair copy, of one document
+pub copy-law : (facts : Facts) (d : List ℕ) → CopyLaw facts d
+copy-law facts d v l h = record { reads-back = copy-reads-back facts d v l h; stays-lawful = copy-stays-lawful d v h facts l; never-longer = copy-never-longer facts d v l h }

@@ -9,7 +9,7 @@ ghost use Rattle.sinks.specs.Staying.{SentTo};
 ghost use Rattle.walk.specs.Coming.{InOrder};
 ghost use Rattle.original.specs.Wrote.{WellNamed};
 ghost use Rattle.fair.specs.Copy.{AllNamed};
-ghost use Rattle.texts.specs.Answered.{Answered};
+ghost use Rattle.texts.specs.Answered.{Answered, CopyLaw};
 use catalogues::CatalogueSet;
 use invoice::check;
 use rules::Fault;
@@ -49,7 +49,8 @@ pub fn fair_copy<C: CatalogueSet, S: Sink>(
     set: &C,
     sink: &mut S,
 ) -> Result<(), Fault>
-    ensures { λ r. ⌜ Answered (S·Sink .taken) (S·Sink .allows) (S·Sink .stays) (C·CatalogueSet .facts (now (set .entry))) (now (document .entry)) fair-copy (now (sink .entry)) r (now (sink .exit)) ⌝ }
+    ensures answered { λ r. ⌜ Answered (S·Sink .taken) (S·Sink .allows) (S·Sink .stays) (C·CatalogueSet .facts (now (set .entry))) (now (document .entry)) fair-copy (now (sink .entry)) r (now (sink .exit)) ⌝ }
+    ensures law { λ _. ⌜ CopyLaw (C·CatalogueSet .facts (now (set .entry))) (now (document .entry)) ⌝ }
 {
     check(document, set)?;
     send_fair_copy(document, sink)
