@@ -1,4 +1,6 @@
 //! Classes of bytes that several layers ask for.
+#![tactic(auto)]
+
 ghost use Rattle.std.specs.Prelude.{◌≡◌};
 ghost use Rattle.rules.specs.Bytes.{blank, name_byte};
 

@@ -1,4 +1,6 @@
 // Judges the invoice on standard input by the catalogues in catalogos.txt, and prints its cadena or why it is refused.
+#![tactic(auto)]
+
 use catalogues::CatalogueText;
 use rules::Fault;
 use sinks::Buffer;

@@ -1,4 +1,5 @@
 // Examples of catalogue texts and of questions to sets.
+#![tactic(auto)]
 
 #[cfg(test)]
 mod tests {

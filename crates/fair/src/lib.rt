@@ -1,4 +1,6 @@
 //! The fair copy of a document, written byte by byte to any writer, sent to any sink, and counted.
+#![tactic(auto)]
+
 mod copy;
 mod rows;
 mod sending;

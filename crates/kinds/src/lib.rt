@@ -1,4 +1,6 @@
 // The values of attributes: their kept forms, and which of them each kind admits.
+#![tactic(auto)]
+
 mod amounts;
 mod classes;
 mod codes;

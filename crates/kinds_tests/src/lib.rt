@@ -1,4 +1,6 @@
 // Kept forms and kinds on examples.
+#![tactic(auto)]
+
 #[cfg(test)]
 mod tests {
     use kinds::{Kept, admits, amount, code, piece};

@@ -1,4 +1,6 @@
 // The letters of a document: at most 65,536 bytes of UTF-8, with characters that XML 1.0 allows.
+#![tactic(auto)]
+
 ghost use Rattle.std.specs.Prelude.{◌≡◌, ◌<◌, length, MatchResult};
 ghost use Rattle.rules.specs.Faults.{Judgement, fault_of};
 ghost use Rattle.rules.specs.Grounds.{LettersFault};

@@ -1,4 +1,6 @@
 //! The check of markup, with the exact place of a refusal, and the laws of well-marked text.
+#![tactic(auto)]
+
 mod bytes;
 mod document;
 mod laws;

@@ -1,4 +1,6 @@
 //! The cadena original of a document, written to any writer and sent to any sink.
+#![tactic(auto)]
+
 mod cadena;
 mod fields;
 mod nodes;

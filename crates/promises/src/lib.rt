@@ -1,4 +1,6 @@
 // What a register promises after every list of calls: one function for each promise, whose answer says only that it holds.
+#![tactic(auto)]
+
 ghost use Rattle.promises.specs.RegisterLaws.{History, TwoEntries, ReadingOutFits, PassedExactly};
 
 /// After every list of calls on a new register, granted or refused, for every memory, set and sink, by the history of calls alone:

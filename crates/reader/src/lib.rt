@@ -1,4 +1,6 @@
 //! Judging the tree of a document, and the names of the attributes of its nodes.
+#![tactic(auto)]
+
 mod names;
 mod nodes;
 

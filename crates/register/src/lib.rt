@@ -1,4 +1,6 @@
 //! A register of invoices over lent memory: open until it is closed, and closed until it is read out.
+#![tactic(auto)]
+
 ghost use Rattle.std.specs.Prelude.{◌≡◌, true};
 ghost use Rattle.promises.specs.Stored.{decoded, holds, AllCopies};
 

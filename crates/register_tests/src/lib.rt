@@ -1,4 +1,6 @@
 // Examples of registers over memory of several sizes.
+#![tactic(auto)]
+
 #[cfg(test)]
 mod answers;
 #[cfg(test)]

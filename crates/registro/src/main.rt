@@ -1,4 +1,6 @@
 // Enters the invoices in the named files into a register by the catalogues in catalogos.txt, prints what became of each, and then every cadena.
+#![tactic(auto)]
+
 mod line;
 
 use catalogues::CatalogueText;

@@ -1,4 +1,6 @@
 // The rule book: what documents, values, texts, catalogues and faults are.
+#![tactic(auto)]
+
 mod examples;
 mod grounds;
 mod schema;

@@ -1,4 +1,6 @@
 // The schema of an invoice: the attributes and the children of its nodes.
+#![tactic(auto)]
+
 mod attributes;
 mod places;
 

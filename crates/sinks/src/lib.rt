@@ -1,4 +1,6 @@
 // Sinks that take a text byte by byte, and the writing of texts to them.
+#![tactic(auto)]
+
 mod buffer;
 mod counter;
 mod matcher;

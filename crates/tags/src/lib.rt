@@ -1,4 +1,6 @@
 //! Going through the tags of a document: blanks, names, attributes and the ends of tags.
+#![tactic(auto)]
+
 mod attributes;
 mod scan;
 mod start;

@@ -1,4 +1,6 @@
 // The cadena and the fair copy of a document, sent to any sink, under a catalogue set or by the shape alone.
+#![tactic(auto)]
+
 mod cadenas;
 mod copies;
 mod shape;

@@ -1,4 +1,6 @@
 // The texts of documents that were read for their shape.
+#![tactic(auto)]
+
 #[cfg(test)]
 mod tests {
     use catalogues::Ruled;

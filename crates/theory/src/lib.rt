@@ -1,4 +1,6 @@
 // What follows from the rules: one function for each law, whose answer says only that the law holds.
+#![tactic(auto)]
+
 mod catalogues;
 mod fair_copy;
 mod grounds;

@@ -1,4 +1,6 @@
 // A cursor over the nodes of a document, in document order.
+#![tactic(auto)]
+
 mod cursor;
 mod event;
 mod turn;
