@@ -27,13 +27,13 @@ loop-a-smaller c = omega (arith, c.in-Some.ensures.within)
 
 pub returns : goal.returns
 returns c =
-    let last : c.skip-blanks.result ≡ c.loop-a.i + front blank (drop c.loop-a.i c.args.document.now) = cc in
+    let last : c.skip_blanks.result ≡ c.loop-a.i + front blank (drop c.loop-a.i c.args.document.now) = cc in
     record {
-      within = (omega (arith, c.loop-a.invariant.0), λ h. c.skip-blanks.ensures.within (c.loop-a.invariant.1 h));
+      within = (omega (arith, c.loop-a.invariant.0), λ h. c.skip_blanks.ensures.within (c.loop-a.invariant.1 h));
       past = λ h. omega (arith, c.loop-a.invariant.2 h, front_end blank c.args.document.now c.loop-a.i (omega (arith, c.loop-a.invariant.0)));
       reads = λ l g z h hg hz e.
           let (left, k, f, n) = c.loop-a.invariant.3 l g z h hg hz e in
-          let q = no_attributes c.args.document.now c.loop-a.i left g z k f c.in-default.ensures.reads in
+          let q = no_attributes c.args.document.now c.loop-a.i left g z k f c.in_default.ensures.reads in
           let (p, x, y) = tag_ends c.args.document.now c.loop-a.i _ last g z hg hz (f ∙ ap (λ m. attributes_on m (g ++ z)) q) in
           omega (arith, p, n, ap (λ m. length (attributes_text m)) q);
     }

@@ -2,19 +2,19 @@ use Rattle.std.proofs.Common.{◌≡◌, ◌+◌, drop, arith}
 use Rattle.tags.specs.Scan.{front, other}
 use Rattle.tags.proofs.Fronts.{through_there, through_not}
 use Rattle.tags.proofs.scan.after.Goals as goal
-use Rattle.tags.proofs.scan.after.Goals.{After-skip-to-i}
+use Rattle.tags.proofs.scan.after.Goals.{After-skip_to-i}
 
-found : (c : After-skip-to-i) → c.skip-to-i.result ≡ c.args.at + front (other 62) (drop c.args.at c.args.document.now)
+found : (c : After-skip_to-i) → c.skip_to-i.result ≡ c.args.at + front (other 62) (drop c.args.at c.args.document.now)
 found c = cc
 
 pub returns-then-i-document : goal.returns-then-i-document
 returns-then-i-document c = record {
-  is = omega (arith, through_there 62 c.args.document.now c.args.at c.skip-to-i.result (found (goal.at.returns-then-i-document c).After-skip-to-i) (omega arith));
+  is = omega (arith, through_there 62 c.args.document.now c.args.at c.skip_to-i.result (found (goal.at.returns-then-i-document c).After-skip_to-i) (omega arith));
   within = λ h. omega arith;
 }
 
 pub returns-else-i-document : goal.returns-else-i-document
 returns-else-i-document c = record {
-  is = omega (arith, through_not 62 c.args.document.now c.args.at c.skip-to-i.result (found (goal.at.returns-else-i-document c).After-skip-to-i) (omega arith));
-  within = c.skip-to-i.ensures.within;
+  is = omega (arith, through_not 62 c.args.document.now c.args.at c.skip_to-i.result (found (goal.at.returns-else-i-document c).After-skip_to-i) (omega arith));
+  within = c.skip_to-i.ensures.within;
 }
