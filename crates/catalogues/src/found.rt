@@ -14,7 +14,7 @@ pub enum Finding {
 
 /// The decimals of a code, or why the catalogue refuses it.
 pub fn look_up<C: CatalogueSet>(set: &C, catalogue: Catalogue, code: &[u8]) -> Result<u8, Finding>
-    ensures found { result ≡ found_by (facts set.now catalogue code.now) }
+    ensures found { result ≡ found_by (C.CatalogueSet.facts set.now catalogue code.now) }
     ensures small { Small result }
 {
     match set.decimals(catalogue, code) {

@@ -1,7 +1,6 @@
 -- The characters of a text, counted where they end.
 use Rattle.std.proofs.Common.{◌≡◌, ℕ, zero, suc, ◌+◌, ◌-◌, ◌*◌, ◌<◌, ◌≤◌, Bool, true, false, cond, ◌&&◌, eqb, leb, List, [], ◌∷◌, length, sym, refl, ap, ◌∙◌, arith}
-use Rattle.std.specs.Str.{chars}
-use Rattle.std.specs.shelf.Text.{chars_after, bytes_after, lead_bits}
+use Rattle.std.specs.Str.{chars, chars_after, continuation_len, lead_bits}
 use Rattle.std.proofs.lemmas.Bool.{cond-false, and_left, and_right, ne_eqb, le-leb, lt-leb}
 use Rattle.rules.specs.Bytes.{all, no_bar}
 use Rattle.rules.specs.Kinds.{admits}
@@ -22,7 +21,7 @@ none_ends k = rw (ne_eqb (suc k) 0 (λ e. omega arith))
 
 count_after : (k c : ℕ) (s : List ℕ) → length (chars_after k c s) ≡ ends k + ended k s
 count_after zero c [] = refl
-count_after zero c (b ∷ s) = let h = count_after (bytes_after b) (lead_bits b) s in omega (arith, h)
+count_after zero c (b ∷ s) = let h = count_after (continuation_len b) (lead_bits b) s in omega (arith, h)
 count_after (suc k) c [] = rw (none_ends k)
 count_after (suc k) c (b ∷ s) =
     let e : suc k - 1 ≡ k = omega arith in
@@ -33,7 +32,7 @@ count_after (suc k) c (b ∷ s) =
 pub count_is : (s : List ℕ) → length (chars s) ≡ ended 0 s
 unfolding chars
 count_is [] = refl
-count_is (b ∷ s) = count_after (bytes_after b) (lead_bits b) s
+count_is (b ∷ s) = count_after (continuation_len b) (lead_bits b) s
 
 pub too_many : (most n k m b : ℕ) (start s xs : List ℕ) → n + ended k s ≡ ended 0 start → s ≡ b ∷ xs → m ≡ to_come k b → m ≡ 0 → most ≤ n → false ≡ admits (Text most) start
 too_many most n k m b start s xs h e f g l =

@@ -4,20 +4,20 @@ use Rattle.catalogues.specs.Ordered.{Indexed}
 use Rattle.catalogues.proofs.FirstFault.{first_long, first_many, first_header, begun}
 use Rattle.catalogues.proofs.Indexing.{empty_index}
 use Rattle.catalogues.proofs.checking.make_index.Goals as goal
-use Rattle.catalogues.proofs.checking.make_index.Goals.{then-text-gt-MOST-BYTES-via-then-text-gt-MOST-BYTES, then-text-gt-MOST-BYTES-via-else-text-gt-MOST-BYTES+then-line-feeds-gt-MOST-LINES, then-text-gt-MOST-BYTES-via-else-text-gt-MOST-BYTES+else-line-feeds-gt-MOST-LINES+then-not-has-header}
+use Rattle.catalogues.proofs.checking.make_index.Goals.{then-text-gt-MOST_BYTES-via-then-text-gt-MOST_BYTES, then-text-gt-MOST_BYTES-via-else-text-gt-MOST_BYTES+then-line_feeds-gt-MOST_LINES, then-text-gt-MOST_BYTES-via-else-text-gt-MOST_BYTES+else-line_feeds-gt-MOST_LINES+then-not-has_header}
 
-pub returns-then-text-gt-MOST-BYTES : goal.returns-then-text-gt-MOST-BYTES
-returns-then-text-gt-MOST-BYTES c =
+pub returns-then-text-gt-MOST_BYTES : goal.returns-then-text-gt-MOST_BYTES
+returns-then-text-gt-MOST_BYTES c =
     let t = c.args.text.now in
-    elim c.then-text-gt-MOST-BYTES.branch [
-      | then-text-gt-MOST-BYTES-via-then-text-gt-MOST-BYTES w ↦ first_long t (let h = w.if-text-gt-MOST-BYTES.true in omega arith)
-      | then-text-gt-MOST-BYTES-via-else-text-gt-MOST-BYTES+then-line-feeds-gt-MOST-LINES w ↦ first_many t (let e = w.line-feeds.ensures in let h = w.if-line-feeds-gt-MOST-LINES.true in omega arith)
-      | then-text-gt-MOST-BYTES-via-else-text-gt-MOST-BYTES+else-line-feeds-gt-MOST-LINES+then-not-has-header w ↦ first_header t (sym w.has-header.ensures ∙ w.if-not-has-header.true)
+    elim c.then-text-gt-MOST_BYTES.branch [
+      | then-text-gt-MOST_BYTES-via-then-text-gt-MOST_BYTES w ↦ first_long t (let h = w.if-text-gt-MOST_BYTES.true in omega arith)
+      | then-text-gt-MOST_BYTES-via-else-text-gt-MOST_BYTES+then-line_feeds-gt-MOST_LINES w ↦ first_many t (let e = w.line_feeds.ensures in let h = w.if-line_feeds-gt-MOST_LINES.true in omega arith)
+      | then-text-gt-MOST_BYTES-via-else-text-gt-MOST_BYTES+else-line_feeds-gt-MOST_LINES+then-not-has_header w ↦ first_header t (sym w.has_header.ensures ∙ w.if-not-has_header.true)
     ]
 
 pub loop-at-init : goal.loop-at-init
 loop-at-init c =
-    let o = begun c.args.text.now (omega arith) (let e = c.line-feeds.ensures in omega arith) (sym c.has-header.ensures ∙ c.if-not-has-header.false) in
+    let o = begun c.args.text.now (omega arith) (let e = c.line_feeds.ensures in omega arith) (sym c.has_header.ensures ∙ c.if-not-has_header.false) in
     (o, empty_index c.args.text.now c.args.index.now o, omega arith, search rules)
 
 pub returns : goal.returns

@@ -3,12 +3,12 @@ use Rattle.std.specs.Char.{is_ascii_digit}
 use Rattle.kinds.proofs.Numbers.{all_more, all_not, all_end, number_more, number_end, grows}
 use Rattle.kinds.proofs.classes.numeral.Goals as goal
 
-pub returns-then-not-is-ascii-digit : goal.returns-then-not-is-ascii-digit
-returns-then-not-is-ascii-digit c = sym c.loop-b.invariant.1 ∙ all_not is_ascii_digit c.args.text.now c.loop-b.b-index (omega arith) (sym c.if-not-is-ascii-digit.ensures.value)
+pub returns-then-not-is_ascii_digit : goal.returns-then-not-is_ascii_digit
+returns-then-not-is_ascii_digit c = sym c.loop-b.invariant.1 ∙ all_not is_ascii_digit c.args.text.now c.loop-b.b-index (omega arith) (sym c.if-not-is_ascii_digit.ensures.value)
 
 pub loop-b-preserved : goal.loop-b-preserved
 loop-b-preserved c =
-    let is = c.if-not-is-ascii-digit.ensures in (
+    let is = c.if-not-is_ascii_digit.ensures in (
       grows _ _ _ c.loop-b.invariant.0 (omega (arith, is.cases)),
       sym (all_more is_ascii_digit c.args.text.now c.loop-b.b-index (omega arith) (sym is.value)) ∙ c.loop-b.invariant.1,
       sym (number_more c.args.text.now c.loop-b.b-index c.loop-b.n _ (omega arith) (omega (arith, c.from.ensures))) ∙ c.loop-b.invariant.2,

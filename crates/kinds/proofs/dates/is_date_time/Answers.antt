@@ -14,4 +14,4 @@ pub returns-then-text-ne84 : goal.returns-then-text-ne84
 returns-then-text-ne84 c = sym (no_t c.args.text.now c.if-text-ne84.true)
 
 pub returns : goal.returns
-returns c = by_time c.args.text.now c.is-time.result c.if-text-ne19.false c.if-not-is-day.ensures c.if-text-ne84.false c.is-time.ensures
+returns c = by_time c.args.text.now c.is_time.result c.if-text-ne19.false c.if-not-is_day.ensures c.if-text-ne84.false c.is_time.ensures

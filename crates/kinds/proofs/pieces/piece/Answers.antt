@@ -5,5 +5,5 @@ use Rattle.kinds.proofs.pieces.piece.Goals as goal
 
 pub returns : goal.returns
 returns c =
-    let part = both_ends c.args.raw.now c.blanks-before.result c.blanks-after.result c.blanks-before.ensures.value c.blanks-after.ensures.value in
+    let part = both_ends c.args.raw.now c.blanks_before.result c.blanks_after.result c.blanks_before.ensures.value c.blanks_after.ensures.value in
     record { part = part; kept = λ h. part ∙ kept_is_piece c.args.raw.now h }

@@ -15,4 +15,4 @@ bad_end s d h =
     (or_from (is_ascii_digit (get_or s 8 0)) (eqb (get_or s 8 0) 65) d (ne_eqb (get_or s 8 0) 65 h))))))
 
 pub returns-then-text-ne65 : goal.returns-then-text-ne65
-returns-then-text-ne65 c = sym (bad_end c.args.text.now (sym c.if-not-is-ascii-digit.ensures.value) c.if-text-ne65.true)
+returns-then-text-ne65 c = sym (bad_end c.args.text.now (sym c.if-not-is_ascii_digit.ensures.value) c.if-text-ne65.true)

@@ -5,9 +5,9 @@ use Rattle.kinds.proofs.Same.{held_more, held_all, held_not, held_over}
 use Rattle.kinds.proofs.Letters.{tail_length}
 use Rattle.kinds.proofs.rfcs.is_tail_left.Goals as goal
 
-pub returns-in-default : goal.returns-in-default
-returns-in-default c =
-    let h = held_not c.loop-i.bytes c.loop-i.i (rest c.args.left) _ (omega arith) c.loop-i.invariant.1 c.in-default.ensures.steps.byte.0 in
+pub returns-in_default : goal.returns-in_default
+returns-in_default c =
+    let h = held_not c.loop-i.bytes c.loop-i.i (rest c.args.left) _ (omega arith) c.loop-i.invariant.1 c.in_default.ensures.steps.byte.0 in
     sym (tail_length (rest c.args.left) (λ e. omega arith))
 
 pub loop-i-preserved : goal.loop-i-preserved
@@ -19,4 +19,4 @@ returns-in-Some-next c =
     sym (tail_length (rest c.args.left) (λ e. omega arith))
 
 pub returns-in-None : goal.returns-in-None
-returns-in-None c = c.is-tail.ensures ∙ ap rfc_tail (held_all c.loop-i.bytes c.loop-i.i _ _ (omega arith) c.loop-i.invariant.1 c.in-None.ensures.steps.byte.0)
+returns-in-None c = c.is_tail.ensures ∙ ap rfc_tail (held_all c.loop-i.bytes c.loop-i.i _ _ (omega arith) c.loop-i.invariant.1 c.in-None.ensures.steps.byte.0)

@@ -20,31 +20,31 @@ some_amount s None h = sym h
 some_amount s (Some a) h = sym h.0
 
 pub returns-in-Fixed : goal.returns-in-Fixed
-returns-in-Fixed c = judged c.args.kind (Fixed c.in-Fixed.text) c.args.raw.now _ c.in-Fixed.is (c.is-same.ensures ∙ ap (λ s. same s c.text.result.now) c.new.ensures ∙ ap (λ t. same (kept (resolved c.args.raw.now)) t) c.text.ensures)
+returns-in-Fixed c = judged c.args.kind (Fixed c.in-Fixed.text) c.args.raw.now _ c.in-Fixed.is (c.is_same.ensures ∙ ap (λ s. same s c.text.result.now) c.new.ensures ∙ ap (λ t. same (kept (resolved c.args.raw.now)) t) c.text.ensures)
 
 pub returns-in-Text : goal.returns-in-Text
 returns-in-Text c = judged c.args.kind (Text c.in-Text.most) c.args.raw.now _ c.in-Text.is (let h = c.is_text.ensures in let is = ap (admits (Text c.in-Text.most)) c.new-in-Text.ensures in cc)
 
 pub returns-in-Amount : goal.returns-in-Amount
-returns-in-Amount c = judged c.args.kind Amount c.args.raw.now _ c.in-Amount.is (c.is-some.ensures ∙ some_amount (kept (resolved c.args.raw.now)) c.amount.result c.amount.ensures)
+returns-in-Amount c = judged c.args.kind Amount c.args.raw.now _ c.in-Amount.is (c.is_some.ensures ∙ some_amount (kept (resolved c.args.raw.now)) c.amount.result c.amount.ensures)
 
 pub returns-in-Positive : goal.returns-in-Positive
-returns-in-Positive c = judged c.args.kind Positive c.args.raw.now _ c.in-Positive.is c.is-positive.ensures
+returns-in-Positive c = judged c.args.kind Positive c.args.raw.now _ c.in-Positive.is c.is_positive.ensures
 
 pub returns-in-DateTime : goal.returns-in-DateTime
-returns-in-DateTime c = judged c.args.kind DateTime c.args.raw.now _ c.in-DateTime.is (c.is-date-time.ensures ∙ by_piece date_time_ok date_time_solid c.args.raw.now c.piece.result.now c.piece.ensures.part)
+returns-in-DateTime c = judged c.args.kind DateTime c.args.raw.now _ c.in-DateTime.is (c.is_date_time.ensures ∙ by_piece date_time_ok date_time_solid c.args.raw.now c.piece.result.now c.piece.ensures.part)
 
 pub returns-in-Digits : goal.returns-in-Digits
-returns-in-Digits c = judged c.args.kind (Digits c.in-Digits.count) c.args.raw.now _ c.in-Digits.is (c.is-digits.ensures ∙ by_piece (admits (Digits c.in-Digits.count)) (λ s h. digits_solid s (and_parts _ _ h).1) c.args.raw.now c.piece-in-Digits.result.now c.piece-in-Digits.ensures.part)
+returns-in-Digits c = judged c.args.kind (Digits c.in-Digits.count) c.args.raw.now _ c.in-Digits.is (c.is_digits.ensures ∙ by_piece (admits (Digits c.in-Digits.count)) (λ s h. digits_solid s (and_parts _ _ h).1) c.args.raw.now c.piece-in-Digits.result.now c.piece-in-Digits.ensures.part)
 
 pub returns-in-Mark : goal.returns-in-Mark
-returns-in-Mark c = judged c.args.kind Mark c.args.raw.now _ c.in-Mark.is (c.is-mark.ensures ∙ by_piece (admits Mark) (λ s h. alphas_solid s (and_parts _ _ h).1) c.args.raw.now c.piece-in-Mark.result.now c.piece-in-Mark.ensures.part)
+returns-in-Mark c = judged c.args.kind Mark c.args.raw.now _ c.in-Mark.is (c.is_mark.ensures ∙ by_piece (admits Mark) (λ s h. alphas_solid s (and_parts _ _ h).1) c.args.raw.now c.piece-in-Mark.result.now c.piece-in-Mark.ensures.part)
 
 pub returns-in-Rfc : goal.returns-in-Rfc
-returns-in-Rfc c = judged c.args.kind Rfc c.args.raw.now _ c.in-Rfc.is c.is-rfc.ensures
+returns-in-Rfc c = judged c.args.kind Rfc c.args.raw.now _ c.in-Rfc.is c.is_rfc.ensures
 
 pub returns-in-Seal : goal.returns-in-Seal
-returns-in-Seal c = judged c.args.kind Seal c.args.raw.now _ c.in-Seal.is (c.is-seal.ensures ∙ by_piece (admits Seal) seal_solid c.args.raw.now c.piece-in-Seal.result.now c.piece-in-Seal.ensures.part)
+returns-in-Seal c = judged c.args.kind Seal c.args.raw.now _ c.in-Seal.is (c.is_seal.ensures ∙ by_piece (admits Seal) seal_solid c.args.raw.now c.piece-in-Seal.result.now c.piece-in-Seal.ensures.part)
 
 pub returns-in-Code : goal.returns-in-Code
-returns-in-Code c = judged c.args.kind _ c.args.raw.now _ c.in-Code.is (c.is-code.ensures ∙ by_piece code_ok code_solid c.args.raw.now c.piece-in-Code.result.now c.piece-in-Code.ensures.part)
+returns-in-Code c = judged c.args.kind _ c.args.raw.now _ c.in-Code.is (c.is_code.ensures ∙ by_piece code_ok code_solid c.args.raw.now c.piece-in-Code.result.now c.piece-in-Code.ensures.part)

@@ -11,7 +11,7 @@ abbrev pub invariant-loop-i : goal.invariant-loop-i
 invariant-loop-i l =
     (l.at < l.i)
     × (l.i ≤ length l.doc)
-    × ((s : Stack) → length s + l.depth ≡ 5 → Begun l.doc l.at s → Like l.doc l.i (inside (cut l.doc l.at l.name-end) s))
+    × ((s : Stack) → length s + l.depth ≡ 5 → Begun l.doc l.at s → Like l.doc l.i (inside (cut l.doc l.at l.name_end) s))
 
 abbrev pub decreases-loop-i : goal.decreases-loop-i
 decreases-loop-i l = length l.doc - l.i

@@ -10,6 +10,6 @@ returns-then-n-name c = record { within = tt; reads = λ s e. refused (omega ari
 
 pub returns : goal.returns
 returns c = record {
-  within = IfOk-weaker c.after-blanks.result _ _ (λ j h. (omega arith, h.1)) c.after-blanks.ensures.within;
-  reads = λ s e. c.after-blanks.ensures.reads (ending [] s) (closed s) (awaits_ending s) (end_named s c.shared-n.ensures e c.if-n-name.false);
+  within = IfOk-weaker c.after_blanks.result _ _ (λ j h. (omega arith, h.1)) c.after_blanks.ensures.within;
+  reads = λ s e. c.after_blanks.ensures.reads (ending [] s) (closed s) (awaits_ending s) (end_named s c.shared-n.ensures e c.if-n-name.false);
 }

@@ -9,7 +9,7 @@ use Rattle.markup.proofs.document.open_tag.Goals as goal
 pub loop-i-init : goal.loop-i-init
 loop-i-init c =
     let doc = c.args.doc.now in
-    let name = c.skip-name-name-end in
+    let name = c.skip_name-name_end in
     (omega arith, name.ensures.within, λ s b. subst (λ t. Like doc name.result (tag t (cut doc c.args.at name.result) s)) (sym c.named-tag.ensures) (past_name s name.ensures b (omega (arith, name.ensures.from))))
 
 pub loop-i-preserved : goal.loop-i-preserved
@@ -19,13 +19,13 @@ loop-i-preserved c =
 
 pub returns-in-Opens : goal.returns-in-Opens
 returns-in-Opens c = record {
-  within = (c.skip-name-name-end.ensures.from, omega arith, omega arith);
+  within = (c.skip_name-name_end.ensures.from, omega arith, omega arith);
   reads = λ s b. moves (c.loop-i.invariant.2 s b) c.loop-i-test.true _ _ (omega arith) c.in-Opens.ensures refl;
 }
 
 pub returns-in-Closes : goal.returns-in-Closes
 returns-in-Closes c = record {
-  within = (c.skip-name-name-end.ensures.from, omega arith, omega arith);
+  within = (c.skip_name-name_end.ensures.from, omega arith, omega arith);
   reads = λ s b. moves (c.loop-i.invariant.2 s b) c.loop-i-test.true _ _ (omega arith) c.in-Closes.ensures refl;
 }
 

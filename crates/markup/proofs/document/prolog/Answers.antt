@@ -14,7 +14,7 @@ returns-then-head c = record { within = tt; reads = refused (omega arith) (cut_o
 
 pub returns : goal.returns
 returns c = record {
-  within = IfOk-weaker c.after-blanks.result _ _ (λ j h. h.1) c.after-blanks.ensures.within;
-  reads = c.after-blanks.ensures.reads before (start []) awaits_before (before_root (omega arith) c.shared-head.ensures
+  within = IfOk-weaker c.after_blanks.result _ _ (λ j h. h.1) c.after_blanks.ensures.within;
+  reads = c.after_blanks.ensures.reads before (start []) awaits_before (before_root (omega arith) c.shared-head.ensures
       (elim c.else-head-gt1.branch [ else-head-gt1-via-then-head-gt1+else-head w ↦ inr w.if-head.false | else-head-gt1-via-else-head-gt1 w ↦ inl (omega (arith, w.if-head-gt1.false)) ]));
 }

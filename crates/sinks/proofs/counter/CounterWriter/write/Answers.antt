@@ -3,4 +3,4 @@ use Rattle.sinks.proofs.Sending.{byte_written}
 use Rattle.sinks.proofs.counter.CounterWriter.write.Goals as goal
 
 pub returns : goal.returns
-returns c = byte_written refl (omega (arith, c.saturating-add-self.ensures))
+returns c = byte_written refl (omega (arith, c.saturating_add-self.ensures))

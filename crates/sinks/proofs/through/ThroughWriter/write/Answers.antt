@@ -8,4 +8,4 @@ returns g c =
     let put = c.if-not-put.ensures in
     byte_written
     (ap (λ t. g.S.Sink.allows s t c.args.byte) (append-nil (g.S.Sink.taken s)) ∙ sym put.answer)
-    record { grown = put.grows; same_rule = put.rule; stayed = put.keeps; same_sink = refl; count_is = omega (arith, c.saturating-add-self.ensures) }
+    record { grown = put.grows; same_rule = put.rule; stayed = put.keeps; same_sink = refl; count_is = omega (arith, c.saturating_add-self.ensures) }
