@@ -12,12 +12,12 @@ loop-event-init g c = λ m h good.
 
 pub loop-event-preserved : goal.loop-event-preserved
 loop-event-preserved g c = λ m h good.
-    left_more 5 (ValuesFault (g.C.CatalogueSet.facts c.args.set.now)) c.args.document.now (standing (elements_of m)) c.loop-event.walk c.next.new.self c.in-Some.event c.in-Some.ensures.same c.in-Some.ensures.gives c.in-ok-node-values.ensures (c.loop-event.invariant m h good)
+    left_more 5 (ValuesFault (g.C.CatalogueSet.facts c.args.set.now)) c.args.document.now (standing (elements_of m)) c.loop-event.walk c.next.new.self c.in-Some.event c.in-Some.ensures.same c.in-Some.ensures.gives c.in_ok-node_values.ensures (c.loop-event.invariant m h good)
 
-pub returns-in-err-node-values : goal.returns-in-err-node-values
-returns-in-err-node-values g c =
-    let told = err_from_is_err_and c.from-residual.result c.from-residual.ensures.1 in
-    rw (told.1, told.2) (λ m h good. left_found 5 (ValuesFault (g.C.CatalogueSet.facts c.args.set.now)) c.args.document.now (standing (elements_of m)) c.loop-event.walk c.next.new.self c.in-Some.event c.in-err-node-values.field-0.0 c.in-Some.ensures.gives c.in-err-node-values.ensures (c.loop-event.invariant m h good))
+pub returns-in_err-node_values : goal.returns-in_err-node_values
+returns-in_err-node_values g c =
+    let told = err_from_is_err_and c.from_residual.result c.from_residual.ensures.1 in
+    rw (told.1, told.2) (λ m h good. left_found 5 (ValuesFault (g.C.CatalogueSet.facts c.args.set.now)) c.args.document.now (standing (elements_of m)) c.loop-event.walk c.next.new.self c.in-Some.event c.in_err-node_values.field-0.0 c.in-Some.ensures.gives c.in_err-node_values.ensures (c.loop-event.invariant m h good))
 
 pub returns : goal.returns
-returns g c = λ m h good. left_none 5 (ValuesFault (g.C.CatalogueSet.facts c.args.set.now)) c.args.document.now (standing (elements_of m)) c.loop-event.walk c.next.new.self c.in-default.ensures.gives (c.loop-event.invariant m h good)
+returns g c = λ m h good. left_none 5 (ValuesFault (g.C.CatalogueSet.facts c.args.set.now)) c.args.document.now (standing (elements_of m)) c.loop-event.walk c.next.new.self c.in_default.ensures.gives (c.loop-event.invariant m h good)

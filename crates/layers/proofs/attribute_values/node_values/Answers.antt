@@ -9,4 +9,4 @@ pub returns-in-Opened : goal.returns-in-Opened
 returns-in-Opened g c = λ o e f s.
     let i = c.in-Opened.is in
     let q : event.Opened c.in-Opened.opened ≡ told o = cc in
-    values_met (g.C.CatalogueSet.facts c.args.set.now) c.args.document.now c.in-Opened.opened (fault_of c.tag-values.result) c.tag-values.ensures o q f s
+    values_met (g.C.CatalogueSet.facts c.args.set.now) c.args.document.now c.in-Opened.opened (fault_of c.tag_values.result) c.tag_values.ensures o q f s

@@ -24,8 +24,8 @@ refused : (facts : Facts) (d : List ℕ) (k : Node) (a : AttributeSpan) (q : Kin
     (f : Fault) → f ≡ fault_at e a.value.start → FirstOf (ValueFinds facts k (given_in d a)) f
 refused facts d k a q name raw i n w e h f p = subst (FirstOf (ValueFinds facts k (given_in d a))) (sym p) (judged facts d k a q name raw i n w (Err e) h)
 
-pub returns-in-default : goal.returns-in-default
-returns-in-default g c = no_kind (g.C.CatalogueSet.facts c.args.set.now) c.args.node (given_in c.args.document.now c.args.a) (c.in-default.ensures ∙ ap (kind_named (rows c.args.node)) c.of-name.ensures)
+pub returns-in_default : goal.returns-in_default
+returns-in_default g c = no_kind (g.C.CatalogueSet.facts c.args.set.now) c.args.node (given_in c.args.document.now c.args.a) (c.in_default.ensures ∙ ap (kind_named (rows c.args.node)) c.of-name.ensures)
 
 pub returns-in-Ok : goal.returns-in-Ok
 returns-in-Ok g c =
@@ -34,4 +34,4 @@ returns-in-Ok g c =
 pub returns-in-Err : goal.returns-in-Err
 returns-in-Err g c =
     refused (g.C.CatalogueSet.facts c.args.set.now) c.args.document.now c.args.node c.args.a c.in-Some.kind c.of-name.result.now c.of-raw.result.now c.in-Some.ensures c.of-name.ensures c.of-raw.ensures c.in-Err.fault c.in-Err.ensures
-    c.at-place.result c.at-place.ensures
+    c.at_place.result c.at_place.ensures

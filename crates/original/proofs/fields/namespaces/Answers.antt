@@ -9,8 +9,8 @@ use Rattle.original.proofs.fields.namespaces.Goals as goal
 counted : (k : Node) → cond (is k Comprobante) 3 0 ≡ length (namespaces k)
 counted k = eqb-true _ _ (at_node (λ j. eqb (cond (is j Comprobante) 3 0) (length (namespaces j))) refl k)
 
-pub returns-then-same-node : goal.returns-then-same-node
-returns-then-same-node c = sym (cond-true {A = ℕ} _ _ _ (sym c.if-same-node.ensures)) ∙ counted c.args.node
+pub returns-then-same_node : goal.returns-then-same_node
+returns-then-same_node c = sym (cond-true {A = ℕ} _ _ _ (sym c.if-same_node.ensures)) ∙ counted c.args.node
 
-pub returns-else-same-node : goal.returns-else-same-node
-returns-else-same-node c = sym (cond-false {A = ℕ} _ _ _ (sym c.if-same-node.ensures)) ∙ counted c.args.node
+pub returns-else-same_node : goal.returns-else-same_node
+returns-else-same_node c = sym (cond-false {A = ℕ} _ _ _ (sym c.if-same_node.ensures)) ∙ counted c.args.node

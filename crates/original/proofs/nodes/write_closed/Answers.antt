@@ -9,27 +9,27 @@ use Rattle.original.specs.Wrote.{owed}
 use Rattle.original.proofs.Joining.{none_yet, some_more, no_more, all_done}
 use Rattle.original.proofs.nodes.write_closed.Goals as goal
 
-pub returns-in-err-begun : goal.returns-in-err-begun
-returns-in-err-begun g c =
+pub returns-in_err-begun : goal.returns-in_err-begun
+returns-in_err-begun g c =
     let d : List ℕ = c.args.document.now in
     let fs : List (List ℕ) = field_if true (text_in d c.args.progress.retained) in
     let gs : List (List ℕ) = field_if true (text_in d c.args.progress.transferred) in
-    let whole : fs ++ gs ≡ closed_fields (owed d c.args.progress) c.args.node = sym (cond-true _ _ _ (sym c.if-not-same-node.ensures)) in
+    let whole : fs ++ gs ≡ closed_fields (owed d c.args.progress) c.args.node = sym (cond-true _ _ _ (sym c.if-not-same_node.ensures)) in
     record {
-      text = passed_on (search rules) (subst (λ l. Written g.W.Writer.writing c.args.to.now (joined_on c.args.progress.begun l) false c.write-slot.new.to) whole (no_more none_yet fs gs refl c.in-err-begun.ensures.text));
+      text = passed_on (search rules) (subst (λ l. Written g.W.Writer.writing c.args.to.now (joined_on c.args.progress.begun l) false c.write_slot.new.to) whole (no_more none_yet fs gs refl c.in_err-begun.ensures.text));
       begun = search rules;
       owes = search rules;
     }
 
-pub returns-in-err-begun-2 : goal.returns-in-err-begun-2
-returns-in-err-begun-2 g c =
+pub returns-in_err-begun-2 : goal.returns-in_err-begun-2
+returns-in_err-begun-2 g c =
     let d : List ℕ = c.args.document.now in
     let fs : List (List ℕ) = field_if true (text_in d c.args.progress.retained) in
     let gs : List (List ℕ) = field_if true (text_in d c.args.progress.transferred) in
-    let whole : fs ++ gs ≡ closed_fields (owed d c.args.progress) c.args.node = sym (cond-true _ _ _ (sym c.if-not-same-node.ensures)) in
-    let first = some_more none_yet fs gs refl c.in-ok-begun.ensures.text c.in-ok-begun.ensures.begun in
+    let whole : fs ++ gs ≡ closed_fields (owed d c.args.progress) c.args.node = sym (cond-true _ _ _ (sym c.if-not-same_node.ensures)) in
+    let first = some_more none_yet fs gs refl c.in_ok-begun.ensures.text c.in_ok-begun.ensures.begun in
     record {
-      text = passed_on (search rules) (subst (λ l. Written g.W.Writer.writing c.args.to.now (joined_on c.args.progress.begun l) false c.write-slot-2.new.to) whole (no_more first gs [] (sym (append-nil gs)) c.in-err-begun-2.ensures.text));
+      text = passed_on (search rules) (subst (λ l. Written g.W.Writer.writing c.args.to.now (joined_on c.args.progress.begun l) false c.write_slot-2.new.to) whole (no_more first gs [] (sym (append-nil gs)) c.in_err-begun-2.ensures.text));
       begun = search rules;
       owes = search rules;
     }
@@ -39,11 +39,11 @@ returns g c =
     let d : List ℕ = c.args.document.now in
     let fs : List (List ℕ) = field_if true (text_in d c.args.progress.retained) in
     let gs : List (List ℕ) = field_if true (text_in d c.args.progress.transferred) in
-    let whole : fs ++ gs ≡ closed_fields (owed d c.args.progress) c.args.node = sym (cond-true _ _ _ (sym c.if-not-same-node.ensures)) in
-    let first = some_more none_yet fs gs refl c.in-ok-begun.ensures.text c.in-ok-begun.ensures.begun in
-    let (t, b) = all_done (some_more first gs [] (sym (append-nil gs)) c.in-ok-begun-2.ensures.text c.in-ok-begun-2.ensures.begun) refl in
+    let whole : fs ++ gs ≡ closed_fields (owed d c.args.progress) c.args.node = sym (cond-true _ _ _ (sym c.if-not-same_node.ensures)) in
+    let first = some_more none_yet fs gs refl c.in_ok-begun.ensures.text c.in_ok-begun.ensures.begun in
+    let (t, b) = all_done (some_more first gs [] (sym (append-nil gs)) c.in_ok-begun-2.ensures.text c.in_ok-begun-2.ensures.begun) refl in
     record {
-      text = subst (λ l. Written g.W.Writer.writing c.args.to.now (joined_on c.args.progress.begun l) true c.write-slot-2.new.to) whole t;
+      text = subst (λ l. Written g.W.Writer.writing c.args.to.now (joined_on c.args.progress.begun l) true c.write_slot-2.new.to) whole t;
       begun = b ∙ ap (begun_by c.args.progress.begun) whole;
-      owes = sym (cond-true _ _ _ (sym c.if-not-same-node.ensures));
+      owes = sym (cond-true _ _ _ (sym c.if-not-same_node.ensures));
     }

@@ -10,11 +10,11 @@ pub returns-in-Opened : goal.returns-in-Opened
 returns-in-Opened g c = λ o e h. go o (sym c.in-Opened.is ∙ e) h
   where
     go : (o : Occurrence) → Opened c.in-Opened.found ≡ told o → SoundAt c.args.document.now o →
-        Wrote g.W.Writer.writing c.args.document.now c.args.to.now c.args.progress (met_fields (owed c.args.document.now c.args.progress) o) (met_totals (owed c.args.document.now c.args.progress) o) c.write-opened.result c.write-opened.new.to
+        Wrote g.W.Writer.writing c.args.document.now c.args.to.now c.args.progress (met_fields (owed c.args.document.now c.args.progress) o) (met_totals (owed c.args.document.now c.args.progress) o) c.write_opened.result c.write_opened.new.to
     go (opened s) e h =
         let found : Found = record { node = s.node; place = s.place; attributes = s.attributes; childless = s.childless } in
         let q : c.in-Opened.found ≡ found = cc in
         let t : Totals = owed c.args.document.now c.args.progress in
-        subst (λ f. Wrote g.W.Writer.writing c.args.document.now c.args.to.now c.args.progress (opened_fields t f.node s.givens) (opened_totals t f.node s.givens) c.write-opened.result c.write-opened.new.to) q
-        (c.write-opened.ensures s.givens (subst (λ f. Sound c.args.document.now f.node f.place f.attributes s.givens) (sym q) h))
+        subst (λ f. Wrote g.W.Writer.writing c.args.document.now c.args.to.now c.args.progress (opened_fields t f.node s.givens) (opened_totals t f.node s.givens) c.write_opened.result c.write_opened.new.to) q
+        (c.write_opened.ensures s.givens (subst (λ f. Sound c.args.document.now f.node f.place f.attributes s.givens) (sym q) h))
     go (closed k) e h = let z : ◌≡◌ {A = ℕ} 0 1 = cc in absurd (omega arith)

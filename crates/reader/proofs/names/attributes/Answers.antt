@@ -13,12 +13,12 @@ use Rattle.reader.proofs.NamesFirst.{judged_names, slots_filled}
 use Rattle.reader.proofs.names.attributes.Goals as goal
 use Rattle.reader.proofs.names.attributes.Goals.{After-missing-lacking}
 
-judged : (c : After-missing-lacking) (o : Option Fault) → o ≡ cond c.missing-lacking.result (Some (AttributeMissing c.args.node-at)) (refusing c.collect-collected.result.refused) → (l : List Attribute) (g z : List ℕ) → all attribute_ok l ≡ true → all blank g ≡ true → closes z ≡ true →
-    drop c.args.at c.args.document.now ≡ attributes_on l (g ++ z) → c.args.node-at < c.args.at → Judgement (NamesFault (standing_of c.args.node c.args.node-at (givens c.args.at l))) o
+judged : (c : After-missing-lacking) (o : Option Fault) → o ≡ cond c.missing-lacking.result (Some (AttributeMissing c.args.node_at)) (refusing c.collect-collected.result.refused) → (l : List Attribute) (g z : List ℕ) → all attribute_ok l ≡ true → all blank g ≡ true → closes z ≡ true →
+    drop c.args.at c.args.document.now ≡ attributes_on l (g ++ z) → c.args.node_at < c.args.at → Judgement (NamesFault (standing_of c.args.node c.args.node_at (givens c.args.at l))) o
 judged c o q l g z h hg hz e low =
     let (s, r) = c.collect-collected.ensures l g z h hg hz e in
-    subst (λ x. Judgement (NamesFault (standing_of c.args.node c.args.node-at (givens c.args.at l))) x) (sym q)
-    (judged_names c.args.document.now c.args.node c.args.at l (g ++ z) h e _ s c.args.node-at low c.missing-lacking.result c.collect-collected.result.refused r c.missing-lacking.ensures)
+    subst (λ x. Judgement (NamesFault (standing_of c.args.node c.args.node_at (givens c.args.at l))) x) (sym q)
+    (judged_names c.args.document.now c.args.node c.args.at l (g ++ z) h e _ s c.args.node_at low c.missing-lacking.result c.collect-collected.result.refused r c.missing-lacking.ensures)
 
 pub returns-in-Some : goal.returns-in-Some
 returns-in-Some c = record { judges = judged (goal.at.returns-in-Some c).After-missing-lacking _ c.in-Some.ensures; holds = λ l g z h hg hz e. tt }

@@ -13,19 +13,19 @@ use Rattle.reader.specs.Tree.{step, finished, node_at, tree_first}
 use Rattle.reader.proofs.Steps.{no_child, row_node}
 use Rattle.reader.proofs.Levels.{Opened, closed, opened, finish_ok, finish_err, no_place, takes_place, answer_ok, answer_err, inside_err, inside_ok, lone_next, full_next, full_open, lone_shut}
 use Rattle.reader.proofs.nodes.+level.Goals as goal
-use Rattle.reader.proofs.nodes.+level.Goals.{After-tag-end-close, After-children, then-close-document-via-then-close-document, then-close-document-via-else-close-document+then-depth-eq0}
+use Rattle.reader.proofs.nodes.+level.Goals.{After-tag_end-close, After-children, then-close-document-via-then-close-document, then-close-document-via-else-close-document+then-depth-eq0}
 
 -- the element that begins in this turn
-begun : (t : ℕ) (c : After-tag-end-close t) (m : Content) (rest : List ℕ) → content_ok c.args.depth m ≡ true → ends rest ≡ true → drop c.args.at c.args.document.now ≡ content_on m rest →
-    (left : Content) × Opened c.args.document.now c.args.depth c.child.i c.skip-blanks-place.result c.skip-name-stop.result c.tag-end-close.result left rest
+begun : (t : ℕ) (c : After-tag_end-close t) (m : Content) (rest : List ℕ) → content_ok c.args.depth m ≡ true → ends rest ≡ true → drop c.args.at c.args.document.now ≡ content_on m rest →
+    (left : Content) × Opened c.args.document.now c.args.depth c.child.i c.skip_blanks-place.result c.skip_name-stop.result c.tag_end-close.result left rest
     × (c.child.i + length (text left) ≡ c.args.at + length (text m))
     × (tree_first c.args.under 0 0 (c.args.at + length (text m)) (located c.args.at m) ≡ tree_first c.args.under c.child.so_far.row c.child.so_far.count (c.args.at + length (text m)) (located c.child.i left))
 begun t c m rest h r e =
     let (left, k, f, n, q) = c.child.invariant.2 m rest h r e in
-    (left, opened c.args.document.now c.child.i c.skip-blanks-place.result c.skip-name-stop.result c.tag-end-close.result rest c.skip-blanks-place.ensures.is c.args.depth left c.skip-name-stop.ensures.is c.tag-end-close.ensures.reads k r f (sym c.if-closing.ensures.is), n, q)
+    (left, opened c.args.document.now c.child.i c.skip_blanks-place.result c.skip_name-stop.result c.tag_end-close.result rest c.skip_blanks-place.ensures.is c.args.depth left c.skip_name-stop.ensures.is c.tag_end-close.ensures.reads k r f (sym c.if-closing.ensures.is), n, q)
 
 -- the row that takes it
-took : (t : ℕ) (c : After-children t) (name : List ℕ) → take (c.skip-name-stop.result - (c.skip-blanks-place.result + 1)) (drop (c.skip-blanks-place.result + 1) c.args.document.now) ≡ name →
+took : (t : ℕ) (c : After-children t) (name : List ℕ) → take (c.skip_name-stop.result - (c.skip_blanks-place.result + 1)) (drop (c.skip_blanks-place.result + 1) c.args.document.now) ≡ name →
     step (drop c.child.so_far.row (under c.args.under)) c.child.so_far.row c.child.so_far.count name ≡ Some c.in-Some.next
 took t c name e = ap (step (drop c.child.so_far.row (under c.args.under)) c.child.so_far.row c.child.so_far.count) (sym e) ∙ sym c.in-Some.ensures.is
 
@@ -38,11 +38,11 @@ bounds-children-next t c = omega (arith, c.in-Some.ensures.within, ap length c.c
 
 pub returns-then-done : goal.returns-then-done
 returns-then-done t c = record {
-  within = (omega (arith, c.child.invariant.0), c.skip-blanks-place.ensures.within c.child.invariant.1);
+  within = (omega (arith, c.child.invariant.0), c.skip_blanks-place.ensures.within c.child.invariant.1);
   judges = λ m rest h r e.
       let (left, k, f, n, q) = c.child.invariant.2 m rest h r e in
-      let (x, y) = closed c.args.document.now c.child.i c.skip-blanks-place.result 0 0 rest c.skip-blanks-place.ensures.is c.args.depth left k r f (sym c.if-closing.ensures.is) in
-      finish_ok c.args.under c.child.so_far.row c.child.so_far.count _ (located c.child.i left) _ q c.skip-blanks-place.result x (y ∙ n) (sym c.if-done.ensures);
+      let (x, y) = closed c.args.document.now c.child.i c.skip_blanks-place.result 0 0 rest c.skip_blanks-place.ensures.is c.args.depth left k r f (sym c.if-closing.ensures.is) in
+      finish_ok c.args.under c.child.so_far.row c.child.so_far.count _ (located c.child.i left) _ q c.skip_blanks-place.result x (y ∙ n) (sym c.if-done.ensures);
 }
 
 pub returns-then-closing : goal.returns-then-closing
@@ -50,24 +50,24 @@ returns-then-closing t c = record {
   within = tt;
   judges = λ m rest h r e.
       let (left, k, f, n, q) = c.child.invariant.2 m rest h r e in
-      let (x, y) = closed c.args.document.now c.child.i c.skip-blanks-place.result 0 0 rest c.skip-blanks-place.ensures.is c.args.depth left k r f (sym c.if-closing.ensures.is) in
-      finish_err c.args.under c.child.so_far.row c.child.so_far.count _ (located c.child.i left) _ q c.skip-blanks-place.result x (y ∙ n) (sym c.if-done.ensures);
+      let (x, y) = closed c.args.document.now c.child.i c.skip_blanks-place.result 0 0 rest c.skip_blanks-place.ensures.is c.args.depth left k r f (sym c.if-closing.ensures.is) in
+      finish_err c.args.under c.child.so_far.row c.child.so_far.count _ (located c.child.i left) _ q c.skip_blanks-place.result x (y ∙ n) (sym c.if-done.ensures);
 }
 
 pub returns-then-close-document : goal.returns-then-close-document
 returns-then-close-document t c = record {
   within = (omega (arith, c.child.invariant.0), omega arith);
   judges = λ m rest h r e.
-      let (left, o, n, q) = begun t (goal.at.returns-then-close-document t c).After-tag-end-close m rest h r e in
+      let (left, o, n, q) = begun t (goal.at.returns-then-close-document t c).After-tag_end-close m rest h r e in
       absurd (elim c.then-close-document.branch [ then-close-document-via-then-close-document w ↦ omega (arith, o.within) | then-close-document-via-else-close-document+then-depth-eq0 w ↦ omega (arith, o.deep) ]);
 }
 
-pub returns-in-default : goal.returns-in-default
-returns-in-default t c = record {
+pub returns-in_default : goal.returns-in_default
+returns-in_default t c = record {
   within = tt;
   judges = λ m rest h r e.
-      let (left, o, n, q) = begun t (goal.at.returns-in-default t c).After-tag-end-close m rest h r e in
-      let s = ap (step (drop c.child.so_far.row (under c.args.under)) c.child.so_far.row c.child.so_far.count) (sym o.named) ∙ sym c.in-default.ensures.is in
+      let (left, o, n, q) = begun t (goal.at.returns-in_default t c).After-tag_end-close m rest h r e in
+      let s = ap (step (drop c.child.so_far.row (under c.args.under)) c.child.so_far.row c.child.so_far.count) (sym o.named) ∙ sym c.in_default.ensures.is in
       elim o.shape [
         | inl z ↦ cc (no_place c.args.under c.child.so_far.row c.child.so_far.count _ (located c.child.i left) _ q o.name _ _ _ _ _ z.is s)
         | inr z ↦ cc (no_place c.args.under c.child.so_far.row c.child.so_far.count _ (located c.child.i left) _ q o.name _ _ _ _ _ z.is s)
@@ -78,7 +78,7 @@ pub returns-then-not-done : goal.returns-then-not-done
 returns-then-not-done t c = record {
   within = tt;
   judges = λ m rest h r e.
-      let (left, o, n, q) = begun t (goal.at.returns-then-not-done t c).After-tag-end-close m rest h r e in
+      let (left, o, n, q) = begun t (goal.at.returns-then-not-done t c).After-tag_end-close m rest h r e in
       let s = took t (goal.at.returns-then-not-done t c).After-children o.name o.named in
       elim o.shape [
         | inl z ↦
@@ -94,7 +94,7 @@ child-preserved-then-document-close-eq47 t c = (
   omega (arith, c.child.invariant.0),
   c.after-i.ensures.within (omega arith),
   λ m rest h r e.
-      let (left, o, n, q) = begun t (goal.at.child-preserved-then-document-close-eq47 t c).After-tag-end-close m rest h r e in
+      let (left, o, n, q) = begun t (goal.at.child-preserved-then-document-close-eq47 t c).After-tag_end-close m rest h r e in
       let s = took t (goal.at.child-preserved-then-document-close-eq47 t c).After-children o.name o.named in
       elim o.shape [
         | inl z ↦
@@ -107,38 +107,38 @@ child-preserved-then-document-close-eq47 t c = (
       ],
 )
 
-pub returns-in-err-end : goal.returns-in-err-end
-returns-in-err-end t c =
-    let told = err_from_is_err_and c.from-residual.result c.from-residual.ensures.1 in
+pub returns-in_err-end : goal.returns-in_err-end
+returns-in_err-end t c =
+    let told = err_from_is_err_and c.from_residual.result c.from_residual.ensures.1 in
     rw (told.1, told.2) (record {
       within = tt;
       judges = λ m rest h r e.
-          let (left, o, n, q) = begun t (goal.at.returns-in-err-end t c).After-tag-end-close m rest h r e in
-          let s = took t (goal.at.returns-in-err-end t c).After-children o.name o.named in
+          let (left, o, n, q) = begun t (goal.at.returns-in_err-end t c).After-tag_end-close m rest h r e in
+          let s = took t (goal.at.returns-in_err-end t c).After-children o.name o.named in
           elim o.shape [
             | inl z ↦ absurd (lone_shut _ _ _ _ _ _ _ _ 0 z c.if-document-close-eq47.false)
             | inr z ↦
                 let w = takes_place c.args.under c.child.so_far.row c.child.so_far.count _ (located c.child.i left) _ q o.name _ _ _ _ _ c.in-Some.next z.is s in
-                let x = answer_err _ _ _ (c.in-err-end.ensures.judges z.inside _ z.deep refl (lies_next c.args.document.now _ _ c.tag-end-close.result z.shown)) in
-                inside_err _ _ _ _ w _ (ap (λ k. tree_first (Some k) 0 0 (c.tag-end-close.result + 1 + length (text z.inside)) (located (c.tag-end-close.result + 1) z.inside)) (kind t (goal.at.returns-in-err-end t c).After-children) ∙ x)
+                let x = answer_err _ _ _ (c.in_err-end.ensures.judges z.inside _ z.deep refl (lies_next c.args.document.now _ _ c.tag_end-close.result z.shown)) in
+                inside_err _ _ _ _ w _ (ap (λ k. tree_first (Some k) 0 0 (c.tag_end-close.result + 1 + length (text z.inside)) (located (c.tag_end-close.result + 1) z.inside)) (kind t (goal.at.returns-in_err-end t c).After-children) ∙ x)
           ];
     })
 
 pub child-preserved : goal.child-preserved
 child-preserved t c =
-    let told = c.in-ok-end.ensures in (
+    let told = c.in_ok-end.ensures in (
       omega (arith, c.child.invariant.0, told.within),
       c.after-i-else-document-close-eq47.ensures.within told.within.1,
       λ m rest h r e.
-          let (left, o, n, q) = begun t (goal.at.child-preserved t c).After-tag-end-close m rest h r e in
+          let (left, o, n, q) = begun t (goal.at.child-preserved t c).After-tag_end-close m rest h r e in
           let s = took t (goal.at.child-preserved t c).After-children o.name o.named in
           elim o.shape [
             | inl z ↦ absurd (lone_shut _ _ _ _ _ _ _ _ 0 z c.if-document-close-eq47.false)
             | inr z ↦
                 let w = takes_place c.args.under c.child.so_far.row c.child.so_far.count _ (located c.child.i left) _ q o.name _ _ _ _ _ c.in-Some.next z.is s in
-                let (x, y) = answer_ok _ _ _ (told.judges z.inside _ z.deep refl (lies_next c.args.document.now _ _ c.tag-end-close.result z.shown)) in
-                let v = inside_ok 0 _ _ _ w (ap (λ k. tree_first (Some k) 0 0 (c.tag-end-close.result + 1 + length (text z.inside)) (located (c.tag-end-close.result + 1) z.inside)) (kind t (goal.at.child-preserved t c).After-children) ∙ x) in
-                let (p, g) = full_next c.args.document.now _ _ _ _ _ _ _ c.after-i-else-document-close-eq47.result z c.in-ok-end.end y c.after-i-else-document-close-eq47.ensures.is in
+                let (x, y) = answer_ok _ _ _ (told.judges z.inside _ z.deep refl (lies_next c.args.document.now _ _ c.tag_end-close.result z.shown)) in
+                let v = inside_ok 0 _ _ _ w (ap (λ k. tree_first (Some k) 0 0 (c.tag_end-close.result + 1 + length (text z.inside)) (located (c.tag_end-close.result + 1) z.inside)) (kind t (goal.at.child-preserved t c).After-children) ∙ x) in
+                let (p, g) = full_next c.args.document.now _ _ _ _ _ _ _ c.after-i-else-document-close-eq47.result z c.in_ok-end.end y c.after-i-else-document-close-eq47.ensures.is in
                 (z.after, z.ok, g, omega (arith, z.long, n, p), v ∙ ap (λ j. tree_first c.args.under c.in-Some.next.row c.in-Some.next.count (c.args.at + length (text m)) (located j z.after)) (sym p))
           ],
     )
