@@ -11,15 +11,15 @@ loop-event-init g c = (
   λ m h good named. record { coming = met m; comes = c.new-walk.ensures.comes m h good; fine = fine_met m named; left = left_as (sym (copy_met c.args.document.now m good)) all_left },
 )
 
-pub returns-in-err-write-event : goal.returns-in-err-write-event
-returns-in-err-write-event g c = λ m h good named.
-    copy_refused c.args.document.now c.loop-event.invariant.0 c.in-Some.event c.in-Some.ensures.gives (c.loop-event.invariant.1 m h good named) (search rules) c.in-err-write-event.ensures
+pub returns-in_err-write_event : goal.returns-in_err-write_event
+returns-in_err-write_event g c = λ m h good named.
+    copy_refused c.args.document.now c.loop-event.invariant.0 c.in-Some.event c.in-Some.ensures.gives (c.loop-event.invariant.1 m h good named) (search rules) c.in_err-write_event.ensures
 
 pub loop-event-preserved : goal.loop-event-preserved
 loop-event-preserved g c = (
   c.in-Some.ensures.same ∙ c.loop-event.invariant.0,
-  λ m h good named. copy_more c.args.document.now c.loop-event.invariant.0 c.in-Some.event c.in-Some.ensures.gives (c.loop-event.invariant.1 m h good named) c.is-childless-childless.result c.is-childless-childless.ensures c.in-ok-write-event.ensures,
+  λ m h good named. copy_more c.args.document.now c.loop-event.invariant.0 c.in-Some.event c.in-Some.ensures.gives (c.loop-event.invariant.1 m h good named) c.is_childless-childless.result c.is_childless-childless.ensures c.in_ok-write_event.ensures,
 )
 
 pub returns : goal.returns
-returns g c = λ m h good named. copy_done c.in-default.ensures.gives (c.loop-event.invariant.1 m h good named)
+returns g c = λ m h good named. copy_done c.in_default.ensures.gives (c.loop-event.invariant.1 m h good named)

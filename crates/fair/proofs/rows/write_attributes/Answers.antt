@@ -8,15 +8,15 @@ use Rattle.fair.proofs.rows.write_attributes.Goals as goal
 pub loop-i-init : goal.loop-i-init
 loop-i-init g c = all_left
 
-pub returns-in-err-write-row : goal.returns-in-err-write-row
-returns-in-err-write-row g c =
-    subst (λ rs. Written g.W.Writer.writing c.args.to.now (rows_text c.args.document.now rs c.args.slots.now.spans) (is_ok c.from-residual.result) c.write-row.new.to) c.rows-rows.ensures
-    (refused (search rules) _ c.in-err-write-row.ensures
+pub returns-in_err-write_row : goal.returns-in_err-write_row
+returns-in_err-write_row g c =
+    subst (λ rs. Written g.W.Writer.writing c.args.to.now (rows_text c.args.document.now rs c.args.slots.now.spans) (is_ok c.from_residual.result) c.write_row.new.to) c.rows-rows.ensures
+    (refused (search rules) _ c.in_err-write_row.ensures
     (rows_left c.args.document.now c.args.node c.rows-rows.result.now c.args.slots.now.spans c.loop-i.i _ c.get.result c.rows-rows.ensures (omega arith) c.get.ensures.slot c.loop-i.invariant))
 
 pub loop-i-preserved : goal.loop-i-preserved
 loop-i-preserved g c =
-    more_written c.in-ok-write-row.ensures
+    more_written c.in_ok-write_row.ensures
     (rows_left c.args.document.now c.args.node c.rows-rows.result.now c.args.slots.now.spans c.loop-i.i _ c.get.result c.rows-rows.ensures (omega arith) c.get.ensures.slot c.loop-i.invariant)
 
 pub returns : goal.returns

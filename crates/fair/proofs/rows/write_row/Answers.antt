@@ -6,6 +6,6 @@ use Rattle.fair.proofs.rows.write_row.Goals as goal
 
 pub returns-in-Some : goal.returns-in-Some
 returns-in-Some g c =
-    subst (λ l. Written g.W.Writer.writing c.args.to.now l (is_ok c.write-attribute.result) c.write-attribute.new.to)
+    subst (λ l. Written g.W.Writer.writing c.args.to.now l (is_ok c.write_attribute.result) c.write_attribute.new.to)
     (namespace_row c.args.document.now (row_meant c.args.row) c.args.slot _ c.in-Some.ensures)
-    c.write-attribute.ensures
+    c.write_attribute.ensures

@@ -10,14 +10,14 @@ pub loop-byte-init : goal.loop-byte-init
 loop-byte-init g c = all_left
 
 pub loop-byte-preserved : goal.loop-byte-preserved
-loop-byte-preserved g c = more_written c.in-ok-write-byte.ensures (left_as (ap (λ t. pieces_text (pieces t)) c.in-Some.ensures.steps.byte) c.loop-byte.invariant)
+loop-byte-preserved g c = more_written c.in_ok-write_byte.ensures (left_as (ap (λ t. pieces_text (pieces t)) c.in-Some.ensures.steps.byte) c.loop-byte.invariant)
 
-pub returns-in-err-write-byte : goal.returns-in-err-write-byte
-returns-in-err-write-byte g c =
-    subst (λ k. Written g.W.Writer.writing c.args.to.now (pieces_text (pieces (rest k))) (is_ok c.from-residual.result) c.write-byte.new.to) c.into-iter-byte-iterator.ensures.into-iter-gives
-    (refused (search rules) _ c.in-err-write-byte.ensures (left_as (ap (λ t. pieces_text (pieces t)) c.in-Some.ensures.steps.byte) c.loop-byte.invariant))
+pub returns-in_err-write_byte : goal.returns-in_err-write_byte
+returns-in_err-write_byte g c =
+    subst (λ k. Written g.W.Writer.writing c.args.to.now (pieces_text (pieces (rest k))) (is_ok c.from_residual.result) c.write_byte.new.to) c.into_iter-byte-iterator.ensures.into_iter_gives
+    (refused (search rules) _ c.in_err-write_byte.ensures (left_as (ap (λ t. pieces_text (pieces t)) c.in-Some.ensures.steps.byte) c.loop-byte.invariant))
 
 pub returns : goal.returns
 returns g c =
-    subst (λ k. Written g.W.Writer.writing c.args.to.now (pieces_text (pieces (rest k))) true c.loop-byte.to) c.into-iter-byte-iterator.ensures.into-iter-gives
+    subst (λ k. Written g.W.Writer.writing c.args.to.now (pieces_text (pieces (rest k))) true c.loop-byte.to) c.into_iter-byte-iterator.ensures.into_iter_gives
     (none_left (left_as (ap (λ t. pieces_text (pieces t)) c.in-None.ensures.steps.byte.0) c.loop-byte.invariant))

@@ -4,6 +4,6 @@ use Rattle.invoice.proofs.checking.check.Goals as goal
 
 pub returns : goal.returns
 returns g c = record {
-  judged = judged _ _ _ c.in-ok-decimals.ensures c.accounts.result c.accounts.ensures.judges c.accounts.ensures.tells;
-  passes = passes _ _ _ c.in-ok-decimals.ensures c.accounts.result c.accounts.ensures.judges c.accounts.ensures.tells;
+  judged = judged _ _ _ c.in_ok-decimals.ensures.judged c.accounts.result c.accounts.ensures.judges c.accounts.ensures.tells;
+  passes = passes _ _ _ c.in_ok-decimals.ensures.judged c.accounts.result c.accounts.ensures.judges c.accounts.ensures.tells;
 }
