@@ -8,7 +8,7 @@ pub returns : goal.returns
 returns g c =
     let self = c.args.self in
     record {
-      step = read_out_of (state_same closed c.stored.ensures.memory c.stored.ensures.used c.stored.ensures.count) c.read-out-answer.ensures;
+      step = read_out_of (state_same closed c.stored.ensures.memory c.stored.ensures.used c.stored.ensures.count) c.read_out-answer.ensures;
       memory = sym (memory_at closed (holds_true self.memory.now self.used self.count self.held));
       lent = refl;
     }

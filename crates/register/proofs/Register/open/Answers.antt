@@ -4,8 +4,8 @@ use Rattle.promises.proofs.Stored.{holds_none, holds_from}
 use Rattle.promises.proofs.StoredCopies.{copies_none}
 use Rattle.register.proofs.Register.open.Goals as goal
 
-pub invariant-of-result : goal.invariant-of-result
-invariant-of-result c = (holds_from (holds_none c.args.memory.now), (∣ copies_none ∣₁, tt))
+pub invariant_of-result : goal.invariant_of-result
+invariant_of-result c = (holds_from (holds_none c.args.memory.now), (∣ copies_none ∣₁, tt))
 
 pub returns : goal.returns
 returns c = record { state = refl; lent = refl; promises = promises c.args.memory.now }

@@ -11,13 +11,13 @@ other {a} {b} p q f = let e : a ≡ b = cc in let g = f e in let z : ◌≡◌ {
 pub loop-before-init : goal.loop-before-init
 loop-before-init c = (refl, λ x copy long k lt e. let h = entry_within (texts c.args.self.now) k x e in omega arith)
 
-pub returns-then-is-copy : goal.returns-then-is-copy
-returns-then-is-copy c = λ x copy long. c.text-at-text.ensures.text ∙ ap Some ((c.if-is-copy.ensures x copy long).0 refl)
+pub returns-then-is_copy : goal.returns-then-is_copy
+returns-then-is_copy c = λ x copy long. c.text_at-text.ensures.text ∙ ap Some ((c.if-is_copy.ensures x copy long).0 refl)
 
 pub loop-before-preserved : goal.loop-before-preserved
 loop-before-preserved c = (
-  c.text-at-text.ensures.next,
-  λ x copy long. below_more _ _ (c.loop-before.invariant.1 x copy long) (λ e. other c.text-at-text.ensures.text e (c.if-is-copy.ensures x copy long).1),
+  c.text_at-text.ensures.next,
+  λ x copy long. below_more _ _ (c.loop-before.invariant.1 x copy long) (λ e. other c.text_at-text.ensures.text e (c.if-is_copy.ensures x copy long).1),
 )
 
 pub returns : goal.returns

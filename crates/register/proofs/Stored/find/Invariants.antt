@@ -7,4 +7,4 @@ use Rattle.register.proofs.Stored.find.Given as goal
 abbrev pub invariant-loop-before : goal.invariant-loop-before
 invariant-loop-before l =
     (l.at ≡ place_after l.self l.before)
-    × ((c : List ℕ) → CopyOf l.document c → length c ≡ l.copy-length → (k : ℕ) → k < l.before + 1 → nth (texts l.self) k ≡ Some c → ⊥)
+    × ((c : List ℕ) → CopyOf l.document c → length c ≡ l.copy_length → (k : ℕ) → k < l.before + 1 → nth (texts l.self) k ≡ Some c → ⊥)

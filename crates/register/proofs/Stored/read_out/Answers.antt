@@ -4,6 +4,6 @@ use Rattle.register.proofs.Stored.read_out.Goals as goal
 
 pub returns : goal.returns
 returns g c =
-    all_read_out c.args.self.now c.write-cadenas-written.ensures c.new-to.ensures.none c.new-to.ensures.sink
-    (λ vs p. let lent = (c.write-cadenas-written.ensures vs p).taken.same_sink in search rules)
+    all_read_out c.args.self.now c.write_cadenas-written.ensures c.new-to.ensures.none c.new-to.ensures.sink
+    (λ vs p. let lent = (c.write_cadenas-written.ensures vs p).taken.same_sink in search rules)
     c.answer.ensures

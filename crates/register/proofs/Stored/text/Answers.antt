@@ -13,5 +13,5 @@ returns-then-number-eq0 c =
     (λ h. no_entry_past (texts s) c.args.number (omega (arith, length_decoded s.count s.memory.now, h.1)))
     c.then-number-eq0.either
 
-pub overflow-add-at : goal.overflow-add-at
-overflow-add-at c = let h = (stored_at c.args.self.now c.loop-before.before c.loop-before.at (omega arith) c.loop-before.invariant).stands.head in search rules
+pub overflow_add-at : goal.overflow_add-at
+overflow_add-at c = let h = (stored_at c.args.self.now c.loop-before.before c.loop-before.at (omega arith) c.loop-before.invariant).stands.head in search rules

@@ -10,8 +10,8 @@ returns c = record {
   stored = λ x copy long.
       let m = c.args.memory.now in
       let at = c.args.at in
-      let head = c.copy-from-slice.ensures.after ∙ c.length-bytes.ensures ∙ ap four_bytes (sym long) in
-      let body : c.write-copy.new.room ≡ x = c.write-copy.ensures x copy (part_long at c.args.copy-length m c.copy-from-slice.new.self x long c.requires.fits (ap length (c.copy-from-slice.ensures.after ∙ c.length-bytes.ensures))) in
+      let head = c.copy_from_slice.ensures.after ∙ c.length_bytes.ensures ∙ ap four_bytes (sym long) in
+      let body : c.write_copy.new.room ≡ x = c.write_copy.ensures x copy (part_long at c.args.copy_length m c.copy_from_slice.new.self x long c.requires.fits (ap length (c.copy_from_slice.ensures.after ∙ c.length_bytes.ensures))) in
       (λ i. put_mid (at + 4) (at + 4 + sym long i - (at + 4)) (put_mid at (at + 4 - at) m (head i)) (body i))
       ∙ two_writes m (four_bytes (length x)) x at refl (omega (arith, c.requires.fits));
   lent = refl;

@@ -7,14 +7,14 @@ use Rattle.texts.specs.Answered.{refused, sent}
 use Rattle.texts.proofs.Judged.{in_order, well_named, copy_fits, copy_law}
 use Rattle.texts.proofs.copies.fair_copy.Goals as goal
 
-pub returns-in-err-check : goal.returns-in-err-check
-returns-in-err-check g c =
-    let p = err_from_is_err_and c.from-residual.result c.from-residual.ensures.1 in
-    record { answered = refused c.in-err-check.field-0.0 c.in-err-check.ensures.judged (p.1 ∙ ap Err p.2) refl; law = copy_law _ _ }
+pub returns-in_err-check : goal.returns-in_err-check
+returns-in_err-check g c =
+    let p = err_from_is_err_and c.from_residual.result c.from_residual.ensures.1 in
+    record { answered = refused c.in_err-check.field-0.0 c.in_err-check.ensures.judged (p.1 ∙ ap Err p.2) refl; law = copy_law _ _ }
 
 pub returns : goal.returns
 returns g c =
-    let p = c.in-ok-check.ensures.passes in
+    let p = c.in_ok-check.ensures.passes in
     let l = p.lawful in
     let shape = lawful_has_shape _ _ l in
     let m = p.has_values.0 in
@@ -22,6 +22,6 @@ returns g c =
     record {
       answered =
           sent (values_of (elements_of m)) l (m, k, refl)
-          (c.send-fair-copy.ensures m k (in_order _ shape m k) (well_named _ shape m k) (copy_fits _ shape (values_of (elements_of m)) (m, k, refl)));
+          (c.send_fair_copy.ensures m k (in_order _ shape m k) (well_named _ shape m k) (copy_fits _ shape (values_of (elements_of m)) (m, k, refl)));
       law = copy_law _ _;
     }

@@ -7,17 +7,17 @@ use Rattle.texts.specs.Answered.{refused, counted}
 use Rattle.texts.proofs.Judged.{in_order, well_named, copy_fits}
 use Rattle.texts.proofs.copies.fair_copy_length.Goals as goal
 
-pub returns-in-err-check : goal.returns-in-err-check
-returns-in-err-check g c =
-    let p = err_from_is_err_and c.from-residual.result c.from-residual.ensures.1 in
-    refused c.in-err-check.field-0.0 c.in-err-check.ensures.judged (p.1 ∙ ap Err p.2)
+pub returns-in_err-check : goal.returns-in_err-check
+returns-in_err-check g c =
+    let p = err_from_is_err_and c.from_residual.result c.from_residual.ensures.1 in
+    refused c.in_err-check.field-0.0 c.in_err-check.ensures.judged (p.1 ∙ ap Err p.2)
 
 pub returns : goal.returns
 returns g c =
-    let p = c.in-ok-check.ensures.passes in
+    let p = c.in_ok-check.ensures.passes in
     let l = p.lawful in
     let shape = lawful_has_shape _ _ l in
     let m = p.has_values.0 in
     let k = p.has_values.1 in
     counted (values_of (elements_of m)) l (m, k, refl)
-    (ap Ok (c.fair-copy-length.ensures m k (in_order _ shape m k) (well_named _ shape m k) (copy_fits _ shape (values_of (elements_of m)) (m, k, refl))))
+    (ap Ok (c.fair_copy_length.ensures m k (in_order _ shape m k) (well_named _ shape m k) (copy_fits _ shape (values_of (elements_of m)) (m, k, refl))))
