@@ -1,4 +1,4 @@
-use Rattle.std.proofs.Common.{◌≡◌, ℕ, ◌+◌, ◌-◌, ◌≤◌, List, ◌++◌, length, take, drop, Err, refl, ap, ◌∙◌, arith, Bor, rules}
+use Rattle.std.proofs.Common.{◌≡◌, ℕ, ◌+◌, ◌-◌, ◌≤◌, List, ◌++◌, length, take, drop, Err, refl, ap, ◌∙◌, arith, MutBor, rules}
 use Rattle.std.proofs.lemmas.Result.{err_from_is_err_and}
 use Rattle.rules.specs.Register.{four_bytes, room, entering, unlawful}
 use Rattle.promises.proofs.Stored.{holds_true}
@@ -43,7 +43,7 @@ returns-then-min-used g c =
     }
 
 -- the memory that the copy was stored in is the register's own
-stored_in : (at : ℕ) {n : ℕ} {d : List ℕ} {memory from : Bor (List ℕ)} {result : List ℕ} → memory ≡ from →
+stored_in : (at : ℕ) {n : ℕ} {d : List ℕ} {memory from : MutBor (List ℕ)} {result : List ℕ} → memory ≡ from →
     ((c : List ℕ) → CopyOf d c → length c ≡ n → result ≡ take at memory.now ++ ((four_bytes (length c) ++ c) ++ drop (at + (length c + 4)) memory.now)) →
     (c : List ℕ) → CopyOf d c → length c ≡ n → result ≡ take at from.now ++ ((four_bytes (length c) ++ c) ++ drop (at + (length c + 4)) from.now)
 stored_in at e f c copy long = f c copy long ∙ ap (λ m. take at m.now ++ ((four_bytes (length c) ++ c) ++ drop (at + (length c + 4)) m.now)) e
@@ -53,10 +53,11 @@ invariant_of-self g c =
     let self = c.args.self.now in
     let k = measured c.in_ok-check.ensures.passes c.fair_copy_length-copy_length.ensures in
     let fit : c.fair_copy_length-copy_length.result + 4 ≤ room self.memory.now - self.used = omega (arith, c.if-min-used.false, c.min.ensures) in
-    let stored = stored_in self.used c.replace-memory.ensures.value c.store-memory.ensures.stored in (
-      new_held k self c.stored.result c.stored.ensures.memory c.stored.ensures.count c.in_default.ensures c.if-count-ge-MOST_ENTRIES.false fit _ stored,
-      (new_copies k self c.stored.result c.stored.ensures.memory c.stored.ensures.count c.in_default.ensures c.if-count-ge-MOST_ENTRIES.false fit _ stored, tt),
-    )
+    let stored = stored_in self.used c.replace-memory.ensures.value c.store-memory.ensures.stored in
+    record {
+      held = new_held k self c.stored.result c.stored.ensures.memory c.stored.ensures.count c.in_default.ensures c.if-count-ge-MOST_ENTRIES.false fit _ stored;
+      copies = new_copies k self c.stored.result c.stored.ensures.memory c.stored.ensures.count c.in_default.ensures c.if-count-ge-MOST_ENTRIES.false fit _ stored;
+    }
 
 pub returns : goal.returns
 returns g c =

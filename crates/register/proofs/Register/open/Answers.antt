@@ -5,7 +5,7 @@ use Rattle.promises.proofs.StoredCopies.{copies_none}
 use Rattle.register.proofs.Register.open.Goals as goal
 
 pub invariant_of-result : goal.invariant_of-result
-invariant_of-result c = (holds_from (holds_none c.args.memory.now), (∣ copies_none ∣₁, tt))
+invariant_of-result c = record { held = holds_from (holds_none c.args.memory.now); copies = ∣ copies_none ∣₁ }
 
 pub returns : goal.returns
 returns c = record { state = refl; lent = refl; promises = promises c.args.memory.now }
