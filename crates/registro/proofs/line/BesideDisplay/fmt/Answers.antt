@@ -21,4 +21,4 @@ one_byte rule.G = refl
 pub returns-in-AccountBroken-clause-writes : goal.returns-in-AccountBroken-clause-writes
 returns-in-AccountBroken-clause-writes g c = λ p ok.
     let told = ap (λ n. 32 ∷ encode n) c.letter-letter.ensures ∙ ap (λ l. 32 ∷ l) (one_byte c.in-AccountBroken.rule) ∙ sym (ap beside c.in-AccountBroken.is) in
-    subst (λ t. HasWritten g.W.Write.write_str_gives c.args.f.now t c.write.new.self) told (c.write.ensures.shows p ok)
+    subst (λ t. HasWritten g.W.Write.write_str_gives c.args.f.now t c.write.new.self) told (c.write.ensures.writes p ok)
