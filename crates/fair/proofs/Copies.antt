@@ -1,5 +1,5 @@
 -- What is met in a document, written one after another, is the fair copy of its values.
-use Rattle.std.proofs.Common.{◌≡◌, ℕ, ◌+◌, Bool, true, false, cond, List, [], ◌∷◌, ◌++◌, length, Some, None, Option, sym, refl, ap, ◌∙◌, subst, append_assoc, append-nil, arith}
+use Rattle.std.proofs.Common.{◌≡◌, ℕ, Bool, true, false, cond, List, [], ◌∷◌, ◌++◌, length, Some, None, Option, sym, refl, ap, ◌∙◌, subst, append_assoc, append-nil, arith}
 use Rattle.rules.specs.Grounds.{standing_here, standing_under, standing}
 use Rattle.rules.specs.Located.{Elements, none, element, elements_of}
 use Rattle.rules.specs.Markup.{Document, text, tag_text}

@@ -1,5 +1,5 @@
 -- All layers, from those up to values and the accounts.
-use Rattle.std.proofs.Common.{◌≡◌, ℕ, List, IfOk, None, Ok, Err, Result, refl, subst}
+use Rattle.std.proofs.Common.{ℕ, List, IfOk, None, Ok, Err, Result, refl, subst}
 use Rattle.rules.specs.Markup.{Document, Marks}
 use Rattle.rules.specs.Located.{elements_of}
 use Rattle.rules.specs.Values.{values_of}

@@ -1,9 +1,9 @@
 -- One step of a kept form.
-use Rattle.std.proofs.Common.{◌≡◌, ℕ, zero, suc, ◌+◌, ◌<◌, ◌≤◌, Bool, true, false, cond, ◌&&◌, eqb, List, [], ◌∷◌, ◌++◌, length, get_or, drop, sym, refl, ap, ◌∙◌, subst, ⊎_elim, add_assoc, arith, length-drop}
-use Rattle.std.proofs.lemmas.List.{drop_more, drop_all, drop-drop, at_drop_more, at_drop_all}
-use Rattle.std.proofs.lemmas.Bool.{false≢true, eq-eqb, ne_eqb, and_parts, cases_Bool, cond-true, cond-false}
+use Rattle.std.proofs.Common.{◌≡◌, ℕ, zero, suc, ◌+◌, ◌<◌, ◌≤◌, Bool, true, false, cond, ◌&&◌, eqb, List, [], ◌∷◌, length, get_or, drop, sym, refl, ap, ◌∙◌, add_assoc, arith, length-drop}
+use Rattle.std.proofs.lemmas.List.{drop_more, drop_all, drop-drop}
+use Rattle.std.proofs.lemmas.Bool.{false≢true, eq-eqb, ne_eqb, and_parts, cond-true, cond-false}
 use Rattle.rules.specs.Bytes.{blank}
-use Rattle.rules.specs.Kept.{starts, escape_at, meant, tail_size, resolved_past, resolved, kept, kept_on, kept_gap}
+use Rattle.rules.specs.Kept.{starts, resolved_past, resolved, kept, kept_on, kept_gap}
 use Rattle.kinds.specs.Reading.{letter_of}
 
 pub starts_more : (ns bs : List ℕ) (i j : ℕ) → i < length ns → j < length bs → get_or ns i 0 ≡ get_or bs j 0 → starts (drop i ns) (drop j bs) ≡ starts (drop (i + 1) ns) (drop (j + 1) bs)

@@ -1,7 +1,7 @@
 -- Where the kept form of a value is the piece between its blanks.
-use Rattle.std.proofs.Common.{◌≡◌, ℕ, ◌+◌, ◌-◌, ◌<◌, ◌≤◌, Bool, true, false, cond, not, ◌&&◌, eqb, ◌⊎◌, List, [], ◌∷◌, ◌++◌, length, get_or, take, drop, Some, None, Option, sym, refl, ap, ◌∙◌, subst, inl, inr, ⊎_elim, arith}
+use Rattle.std.proofs.Common.{◌≡◌, ℕ, ◌+◌, ◌-◌, ◌<◌, ◌≤◌, Bool, true, false, not, ◌&&◌, List, [], ◌∷◌, ◌++◌, length, get_or, take, drop, Some, None, Option, sym, refl, ap, ◌∙◌, subst, ⊎_elim, arith}
 use Rattle.std.proofs.lemmas.List.{take_more, take_rest, drop_more, drop_all}
-use Rattle.std.proofs.lemmas.Bool.{false≢true, both_ways, eqb-true, ne_eqb, and_parts, and_from, and_left, and_right, not_from_true, not-true, cases_Bool, cases_eq, cond-true, cond-false}
+use Rattle.std.proofs.lemmas.Bool.{false≢true, both_ways, ne_eqb, and_parts, and_from, and_left, and_right, not-true, cases_Bool, cases_eq, cond-true, cond-false}
 use Rattle.rules.specs.Bytes.{blank, all}
 use Rattle.rules.specs.Markup.{Escape, amp, lt, gt, quot, apos, plain_byte}
 use Rattle.rules.specs.Kept.{escape_at, meant, resolved, kept, kept_on, kept_gap}

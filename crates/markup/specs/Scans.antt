@@ -1,5 +1,5 @@
 -- What the scans over the bytes of a text find.
-use Rattle.std.specs.Prelude.{◌≡◌, ℕ, ◌+◌, ◌-◌, ◌<◌, ◌≤◌, Bool, true, false, List, length, ◌≢◌, slice_index, slice_range}
+use Rattle.std.specs.Prelude.{◌≡◌, ℕ, ◌+◌, ◌<◌, ◌≤◌, Bool, true, false, List, length, ◌≢◌, slice_index, slice_range}
 
 -- the bytes of d from i up to j
 abbrev pub cut : List ℕ → ℕ → ℕ → List ℕ

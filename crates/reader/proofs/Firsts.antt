@@ -1,7 +1,7 @@
 -- The walk finds the first fault of the tree, given what a step through the rows decides.
-use Rattle.std.proofs.Common.{◌≡◌, ℕ, ◌+◌, ◌<◌, ◌≤◌, Bool, true, false, cond, ◌⊎◌, List, [], ◌∷◌, ◌++◌, length, drop, Some, None, Option, sym, refl, ap, ◌∙◌, subst, inl, inr, arith, length-append}
+use Rattle.std.proofs.Common.{◌≡◌, ℕ, ◌+◌, ◌≤◌, Bool, true, false, cond, ◌⊎◌, List, [], ◌∷◌, ◌++◌, length, drop, Some, None, Option, sym, refl, ◌∙◌, subst, inl, inr, arith, length-append}
 use Rattle.std.proofs.lemmas.Bool.{both_ways}
-use Rattle.rules.specs.Located.{Given, Elements, none, element, located, givens}
+use Rattle.rules.specs.Located.{Given, Elements, none, element, located}
 use Rattle.rules.specs.Markup.{Content, end, empty, full, text, tag_text}
 use Rattle.rules.specs.Values.{under, placed}
 use Rattle.rules.specs.Faults.{rank, not_after, Judgement}

@@ -1,15 +1,13 @@
 -- The walk over a whole document.
-use Rattle.std.proofs.Common.{◌≡◌, ℕ, zero, suc, ◌+◌, Bool, true, false, cond, eqb, List, [], ◌∷◌, ◌++◌, length, take, drop, Some, None, Ok, Err, Option, Result, sym, refl, ap, ◌∙◌, subst, arith, length-append}
-use Rattle.std.proofs.lemmas.List.{take_at, drop_at, append-nil, take-append-drop}
-use Rattle.std.proofs.lemmas.Bool.{and_parts, false≢true}
-use Rattle.rules.specs.Bytes.{all, blank, name_byte}
-use Rattle.rules.specs.Markup.{Content, end, empty, full, text, content_ok, elements, name_ok, Tag, tag_ok, declaration, Document, Marks, head}
+use Rattle.std.proofs.Common.{◌≡◌, ℕ, ◌+◌, true, List, [], length, drop, Some, None, Option, Result, sym, refl, ap, ◌∙◌, subst, length-append}
+use Rattle.std.proofs.lemmas.List.{drop_at, append-nil}
+use Rattle.std.proofs.lemmas.Bool.{and_parts}
+use Rattle.rules.specs.Markup.{Content, text, content_ok, Document, Marks, head}
 use Rattle.rules.specs.Located.{located, elements_of}
 use Rattle.rules.specs.Faults.{Judgement, fault_of}
 use Rattle.rules.specs.Grounds.{TreeFault}
 use Rattle.rules.specs.declared.grounds.Fault.{Fault}
-use Rattle.theory.specs.On.{tag_on, content_on, ends}
-use Rattle.theory.proofs.Lists.{cons_head, cons_tail}
+use Rattle.theory.specs.On.{content_on, ends}
 use Rattle.reader.specs.Tree.{tree_first, answer}
 use Rattle.theory.proofs.Unique.{content_on_is}
 use Rattle.reader.proofs.Firsts.{first, located_spread}

@@ -1,9 +1,8 @@
 -- Steps through the rows of a node's attributes.
-use Rattle.std.proofs.Common.{◌≡◌, ℕ, ◌+◌, ◌<◌, ◌≤◌, Bool, true, false, cond, not, ◌&&◌, ◌||◌, leb, ◌⊎◌, List, [], ◌∷◌, map, length, get_or, drop, is_some, Some, None, Decides, Option, sym, refl, ap, ◌∙◌, ⊎_elim, arith}
+use Rattle.std.proofs.Common.{◌≡◌, ℕ, ◌+◌, ◌<◌, ◌≤◌, Bool, true, false, ◌||◌, leb, ◌⊎◌, List, [], ◌∷◌, map, length, get_or, drop, is_some, Some, None, Decides, Option, sym, refl, ap, ◌∙◌, ⊎_elim, arith}
 use lib.ListN.{length-map}
 use Rattle.std.proofs.lemmas.List.{drop_more, drop_all, drop-map}
 use Rattle.std.proofs.lemmas.Bool.{cond-true, cond-false, leb-true, or_left, and_from, and_left, and_right, not_from_false, not_from_true}
-use Rattle.rules.specs.Schema.{Row as RuleRow}
 use Rattle.rules.specs.Grounds.{rows}
 use Rattle.rules.specs.declared.schema.Node.{Node}
 use Rattle.theory.proofs.SchemaLaws.{at_node}

@@ -1,7 +1,7 @@
 -- The names faults of the nodes of a document lie one node after the other.
-use Rattle.std.proofs.Common.{◌≡◌, ℕ, suc, ◌+◌, ◌-◌, ◌<◌, ◌≤◌, ◌⊎◌, List, [], ◌∷◌, ◌++◌, length, Some, None, Option, sym, refl, ap, ◌∙◌, inl, inr, arith, length-append}
+use Rattle.std.proofs.Common.{◌≡◌, ℕ, ◌+◌, ◌<◌, ◌≤◌, List, [], ◌∷◌, ◌++◌, length, Some, None, Option, refl, ap, inl, inr, arith, length-append}
 use Rattle.rules.specs.Markup.{Attribute, Tag, Content, end, empty, full, text, tag_text, attribute_text, attributes_text}
-use Rattle.rules.specs.Located.{Given, given, givens, Elements, located}
+use Rattle.rules.specs.Located.{Given, given, givens, located}
 use Rattle.rules.specs.Values.{placed}
 use Rattle.rules.specs.Grounds.{Standing, standing_here, standing_under, NamesFault, refused, missing}
 use Rattle.rules.specs.declared.schema.Node.{Node}

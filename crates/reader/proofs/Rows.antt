@@ -1,15 +1,15 @@
 -- What a step through the rows of children decides: whether a list of children goes on to a complete one.
-use Rattle.std.proofs.Common.{◌≡◌, ℕ, zero, suc, ◌+◌, ◌-◌, ◌<◌, ◌≤◌, Bool, true, false, cond, not, ◌&&◌, ◌||◌, eqb, ltb, leb, ◌⊎◌, List, [], ◌∷◌, ◌++◌, length, get_or, drop, Some, None, Option, sym, refl, ap, ◌∙◌, subst, inl, inr, append_assoc, append-nil, add-zero, zero-add, one-add, arith}
+use Rattle.std.proofs.Common.{◌≡◌, ℕ, zero, suc, ◌+◌, ◌-◌, ◌<◌, ◌≤◌, Bool, true, false, cond, not, ◌&&◌, ◌||◌, eqb, ltb, leb, List, [], ◌∷◌, ◌++◌, get_or, drop, Some, None, Option, sym, refl, ap, ◌∙◌, subst, inl, inr, append_assoc, append-nil, add-zero, zero-add, one-add, arith}
 use Rattle.std.proofs.lemmas.List.{drop-drop, get_or-drop}
-use Rattle.std.proofs.lemmas.Bool.{cond-true, cond-false, and_parts, and_from, and_left, and_right, not-true, false≢true, true≢false, both_ways, eq-eqb, ne_eqb, eqb-true, le-leb, lt-leb, lt-ltb, le-ltb, ltb-true, ltb-false, leb-true, leb-false, cases_Bool}
+use Rattle.std.proofs.lemmas.Bool.{cond-true, cond-false, and_parts, and_from, and_left, and_right, not-true, both_ways, eq-eqb, ne_eqb, le-leb, lt-leb, ltb-true, ltb-false, leb-true, cases_Bool}
 use Rattle.rules.specs.Bytes.{same}
 use Rattle.rules.specs.Schema.{Child, child, tag, index, is, needs_child}
 use Rattle.rules.specs.Values.{named, under, placed}
-use Rattle.rules.specs.Grounds.{run, complete_by, some_node, complete, Begins}
+use Rattle.rules.specs.Grounds.{run, complete_by, some_node, complete}
 use Rattle.rules.specs.declared.schema.Node.{Node}
 use Rattle.rules.specs.declared.schema.Node.TheVariants.{Comprobante}
 use Rattle.reader.specs.declared.nodes.Progress.{Progress}
-use Rattle.reader.specs.Tree.{progress, step, enough, finished, node_at}
+use Rattle.reader.specs.Tree.{progress, step, enough, finished}
 use Rattle.theory.proofs.SchemaLaws.{at_level, is_same}
 use Rattle.reader.proofs.Steps.{same_decides}
 use Rattle.reader.proofs.Firsts.{Next}

@@ -1,5 +1,5 @@
 -- What the slots hold after the attributes so far.
-use Rattle.std.proofs.Common.{◌≡◌, ℕ, zero, suc, ◌+◌, ◌<◌, ◌≤◌, Bool, true, false, cond, not, ◌&&◌, ◌||◌, ◌≢◌, ◌⊎◌, List, [], ◌∷◌, ◌++◌, length, get_or, drop, set, replicate, is_some, Some, None, Option, sym, refl, ap, ◌∙◌, subst, inl, inr, append_assoc, append-nil, add-zero, zero-add, arith, length-set}
+use Rattle.std.proofs.Common.{◌≡◌, ℕ, zero, suc, ◌+◌, ◌<◌, ◌≤◌, Bool, true, false, cond, not, ◌&&◌, ◌||◌, ◌≢◌, List, [], ◌∷◌, ◌++◌, length, get_or, drop, set, replicate, is_some, Some, None, Option, sym, refl, ap, ◌∙◌, subst, inl, inr, append_assoc, append-nil, add-zero, zero-add, arith, length-set}
 use Rattle.std.proofs.lemmas.List.{get_or-set_same, get_or-set_other}
 use Rattle.std.proofs.lemmas.Bool.{cond-true, cond-false, and_parts, not-true, both_ways, or_parts, cases_Bool}
 use Rattle.rules.specs.Bytes.{same, all, blank}
@@ -19,7 +19,7 @@ use Rattle.tags.specs.declared.attributes.Span.{Span}
 use Rattle.tags.proofs.Fronts.{past}
 use Rattle.tags.proofs.Parts.{value_part, value_within}
 use Rattle.reader.specs.Names.{row_at, with_span, filled}
-use Rattle.reader.specs.Slots.{given_as, Shows, Shown, kept_in, Holds, Filled}
+use Rattle.reader.specs.Slots.{given_as, Shows, Shown, kept_in, Filled}
 use Rattle.reader.proofs.Steps.{same_decides}
 
 -- the names of the rows

@@ -1,5 +1,5 @@
 -- What the questions of a register and its reading out answer.
-use Rattle.std.proofs.Common.{◌≡◌, ℕ, suc, ◌+◌, ◌^◌, ◌<◌, ◌≤◌, Bool, cond, List, [], ◌∷◌, ◌++◌, length, Some, Ok, Err, Result, sym, refl, ap, ◌∙◌, subst, ⊎_elim, arith, length-append}
+use Rattle.std.proofs.Common.{◌≡◌, ℕ, suc, ◌^◌, ◌<◌, ◌≤◌, Bool, cond, List, [], ◌∷◌, ◌++◌, length, Some, Ok, Err, Result, sym, refl, subst, ⊎_elim, arith, length-append}
 use mathlib.Core.Logic.{∥∥₁_elim}
 use mathlib.Core.HLevel.{⊥_prop}
 use Rattle.rules.specs.declared.grounds.Fault.{Fault}
@@ -7,10 +7,10 @@ use Rattle.rules.specs.declared.grounds.Fault.TheVariants.{Stopped}
 use Rattle.rules.specs.Markup.{Document, Marks, WellMarked}
 use Rattle.rules.specs.Located.{elements_of}
 use Rattle.rules.specs.Values.{Values, values_of}
-use Rattle.rules.specs.Texts.{cadena, fair_copy}
+use Rattle.rules.specs.Texts.{cadena}
 use Rattle.rules.specs.Grounds.{HasValues}
 use Rattle.rules.specs.Sinks.{Sink}
-use Rattle.rules.specs.Register.{nth, four_bytes, packed, Phase, opened, closed, used_up, State, in_phase, Call, Answer, Step, ask_cadena, ask_fair_copy, ask_count, read_out, sending, Gives, gives, sends, Pairwise, none_left, one_more, lines}
+use Rattle.rules.specs.Register.{nth, four_bytes, packed, Phase, opened, closed, used_up, State, in_phase, Call, Answer, Step, ask_cadena, ask_fair_copy, ask_count, read_out, sending, gives, sends, Pairwise, none_left, one_more, lines}
 use Rattle.markup.proofs.Decided.{markup_decided}
 use Rattle.promises.specs.Stored.{place_of_entry, state_at}
 use Rattle.promises.proofs.Places.{nth_later}

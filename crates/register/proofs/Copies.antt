@@ -1,5 +1,5 @@
 -- What a matcher and a buffer have once a fair copy was sent to them.
-use Rattle.std.proofs.Common.{◌≡◌, ℕ, ◌+◌, ◌-◌, ◌^◌, ◌<◌, ◌≤◌, Bool, ◌&&◌, List, [], ◌++◌, length, take, drop, is_ok, Decides, Result, sym, refl, ap, ◌∙◌, append-nil, arith}
+use Rattle.std.proofs.Common.{◌≡◌, ℕ, ◌+◌, ◌-◌, ◌^◌, ◌<◌, ◌≤◌, Bool, ◌&&◌, List, [], ◌++◌, length, take, drop, is_ok, Decides, Result, sym, ap, ◌∙◌, append-nil, arith}
 use mathlib.Core.Path.{transport}
 use borrow.Rule.Slice.PartMut.{put_mid}
 use Rattle.std.proofs.lemmas.List.{take_all, drop_all, length-drop, length-take-le}

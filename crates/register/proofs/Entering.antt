@@ -1,5 +1,5 @@
 -- What entering a lawful document answers.
-use Rattle.std.proofs.Common.{◌≡◌, ℕ, suc, ◌+◌, ◌-◌, ◌^◌, ◌<◌, ◌≤◌, true, List, ◌++◌, length, take, drop, Some, Ok, Err, Result, sym, refl, ap, ◌∙◌, subst, ⊎_elim, arith}
+use Rattle.std.proofs.Common.{◌≡◌, ℕ, suc, ◌+◌, ◌-◌, ◌^◌, ◌<◌, ◌≤◌, true, List, ◌++◌, length, take, drop, Some, Ok, Err, sym, refl, ap, ◌∙◌, subst, ⊎_elim, arith}
 use Rattle.std.proofs.lemmas.Bool.{cases_lt}
 use Rattle.rules.specs.Markup.{Document, Marks}
 use Rattle.rules.specs.Located.{elements_of}
@@ -7,8 +7,7 @@ use Rattle.rules.specs.Values.{Values, values_of}
 use Rattle.rules.specs.Texts.{fair_copy}
 use Rattle.rules.specs.Catalogues.{Facts}
 use Rattle.rules.specs.Grounds.{letters, too_long, tree, names, Lawful, HasValues}
-use Rattle.rules.specs.Register.{nth, four_bytes, room, opened, State, free, enter, entering, Absent, already, full, no_room, granted, lawful, Step}
-use Rattle.rules.specs.declared.grounds.Fault.{Fault}
+use Rattle.rules.specs.Register.{nth, four_bytes, room, opened, free, enter, entering, Absent, already, full, no_room, granted, lawful, Step}
 use Rattle.rules.specs.declared.grounds.Fault.TheVariants.{AlreadyEntered, Full, NoRoom}
 use Rattle.theory.proofs.FairCopyLaws.{copy_never_longer}
 use Rattle.promises.specs.Stored.{decoded, Holds, holds, state_at, AllCopies}

@@ -2,7 +2,7 @@
 use Rattle.std.specs.Prelude.{◌≡◌, ℕ, Bool, List, Result}
 use Rattle.rules.specs.declared.grounds.Fault.{Fault}
 use Rattle.rules.specs.Sinks.{Sink}
-use Rattle.rules.specs.Register.{State, Call, Answer, sending, Step}
+use Rattle.rules.specs.Register.{State, Call, sending, Step}
 use Rattle.sinks.specs.Staying.{Staying}
 
 -- a call that sends to a sink, which was k and is k': the step of the register, the rule of the sink, and what else of the sink stays

@@ -41,7 +41,7 @@ fn a_buffer_that_stops(rt: HostRuntime) -> Result<(), Fail> {
     let mut buffer = Buffer::new(&mut room);
     assert!(rt; send_to(&mut buffer, b"abc").is_ok());
     assert_eq!(rt; told(register.fair_copy(2, &mut buffer)), (15, 7));
-    assert!(rt; buffer.bytes() == b"abc<cfdi:C");
+    assert!(rt; buffer.bytes() == b"abc<cfdi:C".as_slice());
     Ok(())
 }
 

@@ -1,5 +1,5 @@
 -- The faults: their numbers, layers and places, and which of two counts.
-use Rattle.std.specs.Prelude.{◌≡◌, ℕ, Bool, true, cond, List, [], ◌∷◌, ◌++◌, Some, None, Ok, Err, codes, decimal, Option, Result, ◌==◌, nat_le}
+use Rattle.std.specs.Prelude.{◌≡◌, ℕ, Bool, true, cond, List, ◌∷◌, ◌++◌, Some, None, Ok, Err, codes, decimal, Option, Result, ◌==◌, nat_le}
 use Rattle.rules.specs.declared.grounds.Layer.{Layer}
 use Rattle.rules.specs.declared.grounds.Layer.TheVariants as lay
 use Rattle.rules.specs.declared.grounds.Rule.{Rule}

@@ -14,7 +14,7 @@ fn a_buffer_fills(rt: HostRuntime) -> Result<(), Fail> {
         Err(fault) => assert!(rt; fault.number() == 15 && fault.place() == 1),
         Ok(()) => return Err(Fail::new("a full buffer took a byte")),
     }
-    assert!(rt; buffer.bytes() == b"abcd");
+    assert!(rt; buffer.bytes() == b"abcd".as_slice());
     Ok(())
 }
 

@@ -1,17 +1,16 @@
 -- The parts of an attribute as the scans find them.
-use Rattle.std.proofs.Common.{◌≡◌, ℕ, ◌+◌, ◌-◌, ◌<◌, ◌≤◌, min, Bool, true, false, cond, not, ◌&&◌, ◌||◌, eqb, List, [], ◌∷◌, ◌++◌, length, get_or, take, drop, Some, None, sym, refl, ap, ◌∙◌, inl, inr, append_assoc, arith, length-append}
+use Rattle.std.proofs.Common.{◌≡◌, ℕ, ◌+◌, ◌-◌, ◌<◌, min, true, ◌||◌, eqb, List, [], ◌∷◌, ◌++◌, length, get_or, take, drop, Some, None, sym, refl, ap, ◌∙◌, inl, inr, arith, length-append}
 use lib.Seq.{take-nil}
 use Rattle.std.proofs.lemmas.List.{length-drop, take_all, take_rest, drop_all}
-use Rattle.std.proofs.lemmas.Bool.{and_parts, and_from, false≢true, both_ways, cases_lt}
+use Rattle.std.proofs.lemmas.Bool.{and_parts, false≢true, cases_lt}
 use Rattle.std.proofs.lemmas.Bool.Decides.{nat_tests}
 use Rattle.rules.specs.Bytes.{blank, name_byte, all}
-use Rattle.rules.specs.Markup.{Escape, amp, lt, gt, quot, apos, Piece, plain, escaped, piece_ok, piece_text, pieces_text, Quote, single, double, quote_byte, Attribute, attribute_ok, attribute_text, attributes_text, name_ok, some}
+use Rattle.rules.specs.Markup.{amp, lt, gt, quot, apos, Piece, plain, escaped, piece_ok, piece_text, pieces_text, Quote, single, double, quote_byte, Attribute, attribute_ok, attribute_text, attributes_text, name_ok}
 use Rattle.tags.specs.Scan.{front, other}
 use Rattle.theory.specs.On.{stops, closes, pieces_on, attribute_on, attributes_on}
 use Rattle.theory.proofs.Lists.{all_append}
 use Rattle.theory.proofs.Unique.{pieces_on_is, attribute_on_is}
 use Rattle.tags.specs.Spans.{part, spans, name_span, value_span}
-use Rattle.tags.specs.declared.attributes.Span.{Span}
 use Rattle.tags.specs.declared.attributes.AttributeSpan.{AttributeSpan}
 use Rattle.tags.proofs.Fronts.{past, cut, scanned, lies_less, lies_head, lies_next}
 

@@ -1,5 +1,5 @@
 -- Runs of bytes at the front of what is left of a text.
-use Rattle.std.specs.Prelude.{ℕ, ◌+◌, Bool, true, false, cond, not, List, [], ◌∷◌, ◌==◌}
+use Rattle.std.specs.Prelude.{ℕ, ◌+◌, Bool, true, cond, not, List, [], ◌∷◌, ◌==◌}
 
 -- how many bytes at the front pass a test
 abbrev pub front : (ℕ → Bool) → List ℕ → ℕ

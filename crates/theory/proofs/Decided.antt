@@ -5,7 +5,7 @@ use Rattle.rules.specs.Bytes.{Among}
 use Rattle.rules.specs.Letters.{SpelledUpTo}
 use Rattle.rules.specs.Located.{Given, Elements}
 use Rattle.rules.specs.Kinds.{keep, admitted, catalogue_of}
-use Rattle.rules.specs.Schema.{Row, attributes, is}
+use Rattle.rules.specs.Schema.{Row, attributes}
 use Rattle.rules.specs.Values.{slots, values_of}
 use Rattle.rules.specs.Accounts.{rule_e}
 use Rattle.rules.specs.Catalogues.{Facts}

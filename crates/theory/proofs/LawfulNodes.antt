@@ -3,11 +3,11 @@ use Rattle.std.proofs.Common.{◌≡◌, ℕ, Bool, true, false, not, ◌&&◌, 
 use Rattle.std.proofs.lemmas.Bool.{cond-true, cond-false, and_parts, not-true, or_left, or_from, cases_Bool, both_ways, false≢true}
 use Rattle.rules.specs.Bytes.{all, same, Among}
 use Rattle.rules.specs.Markup.{some}
-use Rattle.rules.specs.Located.{Given, givens}
+use Rattle.rules.specs.Located.{Given}
 use Rattle.rules.specs.Kinds.{fixed_text, admits, keep, admitted, catalogue_of}
 use Rattle.rules.specs.declared.schema.Kind.{Kind}
 use Rattle.rules.specs.declared.schema.Kind.TheVariants.{Fixed, Text, Amount, Positive, DateTime, Digits, Mark, Rfc, Seal, Code}
-use Rattle.rules.specs.Schema.{Row, attributes, namespaces}
+use Rattle.rules.specs.Schema.{Row, namespaces}
 use Rattle.rules.specs.Values.{kept_of}
 use Rattle.rules.specs.Texts.{only_text}
 use Rattle.rules.specs.Catalogues.{Facts}

@@ -1,5 +1,5 @@
 -- The fair copy reads back.
-use Rattle.std.proofs.Common.{◌≡◌, ℕ, zero, suc, ◌+◌, ◌<◌, ◌≤◌, Bool, true, false, cond, not, ltb, List, [], ◌∷◌, ◌++◌, length, Some, None, Option, sym, refl, ap, ◌∙◌, ⊎_elim, arith}
+use Rattle.std.proofs.Common.{◌≡◌, ℕ, zero, suc, ◌+◌, ◌<◌, ◌≤◌, Bool, true, false, cond, ltb, List, [], ◌∷◌, ◌++◌, length, Some, None, Option, sym, refl, ap, ◌∙◌, ⊎_elim, arith}
 use Rattle.std.proofs.lemmas.Bool.{cond-true, cond-false, and_parts, and_from, not-true, or_parts, or_left, or_right, eq-eqb, cases_Bool, ltb-true, both_ways}
 use Rattle.rules.specs.Bytes.{all, same}
 use Rattle.rules.specs.Markup.{Attribute, Document, name_ok, attribute_ok, tag_ok, content_ok, elements, document_ok, pieces_bytes, attribute_text}

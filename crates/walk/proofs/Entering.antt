@@ -1,11 +1,11 @@
 -- The start of a node.
-use Rattle.std.proofs.Common.{◌≡◌, ℕ, zero, suc, ◌+◌, ◌-◌, ◌<◌, ◌≤◌, Bool, true, false, cond, ◌&&◌, ◌||◌, eqb, ◌⊎◌, List, [], ◌∷◌, ◌++◌, length, get_or, take, drop, Some, None, Option, sym, refl, ap, ◌∙◌, subst, inl, inr, ⊎_elim, append_assoc, arith, length-append}
+use Rattle.std.proofs.Common.{◌≡◌, ℕ, zero, suc, ◌+◌, ◌-◌, Bool, true, false, ◌&&◌, List, [], ◌∷◌, ◌++◌, length, take, drop, Some, Option, sym, refl, ap, ◌∙◌, ⊎_elim, arith, length-append}
 use Rattle.std.proofs.lemmas.List.{take_at}
-use Rattle.std.proofs.lemmas.Bool.{and_parts, and_from, cases_Bool, cond-true, cond-false, false≢true, both_ways, eqb-true}
+use Rattle.std.proofs.lemmas.Bool.{and_parts, and_from, cases_Bool, cond-true, cond-false, false≢true}
 use Rattle.std.proofs.lemmas.Bool.Decides.{nat_tests}
 use Rattle.rules.specs.Bytes.{Among, same, blank, name_byte, all}
-use Rattle.rules.specs.Markup.{Attribute, attribute_ok, attributes_text, name_ok, some, Tag, tag_ok, tag_text, Content, end, empty, full, text, content_ok}
-use Rattle.rules.specs.Located.{Given, givens, Elements, none, element, located}
+use Rattle.rules.specs.Markup.{Attribute, attribute_ok, attributes_text, name_ok, some, Tag, tag_ok, tag_text, Content, end, empty, full, content_ok}
+use Rattle.rules.specs.Located.{located}
 use Rattle.rules.specs.Schema.{Child, tag}
 use Rattle.rules.specs.Values.{named, under, placed}
 use Rattle.rules.specs.declared.schema.Node.{Node}
@@ -13,14 +13,10 @@ use Rattle.theory.specs.On.{attributes_on, tag_on, content_on, closes, stops}
 use Rattle.theory.specs.Schema.{parent}
 use Rattle.theory.proofs.SchemaLaws.{one_parent}
 use Rattle.tags.specs.Scan.{front, other, ended}
-use Rattle.walk.specs.Events.{Start, start, Occurrence, opened, closed, met_at, met_under, told, Tagged, no_element}
-use Rattle.walk.specs.Coming.{Placed, Follows, nothing, ends, Coming, shuts}
-use Rattle.walk.specs.declared.event.Event.TheVariants.{Opened}
-use Rattle.tags.proofs.Fronts.{past, scanned, lies_less, lies_head, lies_next}
-use Rattle.theory.proofs.Lists.{all_append as all-++}
-use Rattle.tags.proofs.Parts.{blanks_stop, no_slash}
+use Rattle.walk.specs.Events.{no_element}
+use Rattle.tags.proofs.Fronts.{past, scanned, lies_next}
+use Rattle.tags.proofs.Parts.{blanks_stop}
 use Rattle.theory.proofs.Unique.{attributes_on_is}
-use Rattle.walk.proofs.Leaving.{follows_stops, follows_shuts}
 
 -- the node that a name means under p has the parent p
 named_among : (cs : List Child) (n : List ℕ) (k : Node) → named cs n ≡ Some k → (c : Child) × Among c cs × (c.node ≡ k)

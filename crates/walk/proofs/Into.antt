@@ -1,9 +1,9 @@
 -- What comes once a node has been opened.
-use Rattle.std.proofs.Common.{◌≡◌, ℕ, zero, suc, ◌+◌, ◌-◌, ◌<◌, Bool, true, false, ◌⊎◌, List, [], ◌∷◌, ◌++◌, length, get_or, take, drop, Some, None, Option, sym, refl, ap, ◌∙◌, subst, inl, inr, append_assoc, arith, length-append}
+use Rattle.std.proofs.Common.{◌≡◌, ℕ, zero, suc, ◌+◌, ◌-◌, ◌<◌, Bool, true, false, ◌⊎◌, List, [], ◌∷◌, ◌++◌, length, get_or, take, drop, Some, Option, sym, refl, ap, ◌∙◌, subst, inl, inr, append_assoc, arith, length-append}
 use Rattle.std.proofs.lemmas.Bool.{and_parts, false≢true, both_ways}
 use Rattle.rules.specs.Bytes.{blank, name_byte, all}
 use Rattle.rules.specs.Markup.{attribute_ok, Tag, name_ok, tag_ok, tag_text, Content, end, empty, full, text, content_ok}
-use Rattle.rules.specs.Located.{Given, givens, Elements, none, element, located}
+use Rattle.rules.specs.Located.{Given, givens, none, located}
 use Rattle.rules.specs.Values.{placed}
 use Rattle.rules.specs.declared.schema.Node.{Node}
 use Rattle.theory.specs.On.{tag_on, content_on, closes}

@@ -1,15 +1,15 @@
 -- The end of what stands in a node.
-use Rattle.std.proofs.Common.{◌≡◌, ℕ, zero, suc, ◌+◌, ◌-◌, ◌<◌, ◌≤◌, Bool, true, false, ◌&&◌, ◌||◌, eqb, List, [], ◌∷◌, ◌++◌, length, drop, Some, None, Option, sym, refl, ap, ◌∙◌, subst, arith, length-append}
+use Rattle.std.proofs.Common.{◌≡◌, ℕ, zero, suc, ◌+◌, ◌<◌, ◌≤◌, true, eqb, List, [], ◌∷◌, ◌++◌, length, drop, Some, Option, sym, refl, ap, ◌∙◌, subst, arith, length-append}
 use Rattle.std.proofs.lemmas.List.{length-drop}
-use Rattle.std.proofs.lemmas.Bool.{and_parts, false≢true, eqb-true, cond-true, cond-false, not-true}
+use Rattle.std.proofs.lemmas.Bool.{and_parts, false≢true, eqb-true, cond-false, not-true}
 use Rattle.std.proofs.lemmas.Bool.Decides.{nat_tests}
-use Rattle.rules.specs.Bytes.{blank, name_byte, all}
-use Rattle.rules.specs.Markup.{Content, end, empty, full, text, content_ok, name_ok, tag_ok}
-use Rattle.rules.specs.Located.{Elements, none, located}
+use Rattle.rules.specs.Bytes.{blank, all}
+use Rattle.rules.specs.Markup.{Content, end, empty, full, text, content_ok, name_ok}
+use Rattle.rules.specs.Located.{none, located}
 use Rattle.rules.specs.declared.schema.Node.{Node}
 use Rattle.theory.specs.On.{content_on, stops}
 use Rattle.theory.specs.Schema.{parent}
-use Rattle.tags.specs.Scan.{front, other, through, ended}
+use Rattle.tags.specs.Scan.{front, other, through}
 use Rattle.walk.specs.Events.{Occurrence, closed, met_under}
 use Rattle.walk.specs.Coming.{Placed, Follows, nothing, ends, Coming, Turns, shuts, ending}
 use Rattle.walk.specs.declared.event.Event.TheVariants.{Closed}

@@ -1,6 +1,6 @@
 -- The nodes that are opened are those that stand in the document.
-use Rattle.std.proofs.Common.{◌≡◌, ℕ, List, [], ◌∷◌, ◌++◌, Some, None, Option, sym, refl, ap, ◌∙◌, append_assoc, append-nil}
-use Rattle.rules.specs.Located.{Given, Elements, none, element, elements_of}
+use Rattle.std.proofs.Common.{◌≡◌, List, [], ◌∷◌, ◌++◌, Some, None, Option, sym, refl, ap, ◌∙◌, append_assoc, append-nil}
+use Rattle.rules.specs.Located.{Elements, none, element, elements_of}
 use Rattle.rules.specs.Values.{placed}
 use Rattle.rules.specs.Grounds.{Standing, standing_here, standing_under}
 use Rattle.rules.specs.declared.schema.Node.{Node}

@@ -1,14 +1,12 @@
 -- Where the elements of a document begin, and what is met from there on.
-use Rattle.std.proofs.Common.{◌≡◌, ℕ, ◌+◌, Bool, true, false, cond, eqb, List, [], ◌∷◌, ◌++◌, length, drop, Some, None, Option, sym, refl, ap, ◌∙◌, subst, append-nil}
+use Rattle.std.proofs.Common.{◌≡◌, ℕ, List, [], length, drop, Some, None, Option, sym, refl, ap, ◌∙◌, subst, append-nil}
 use Rattle.std.proofs.lemmas.List.{drop_at}
-use Rattle.std.proofs.lemmas.Bool.{and_parts, false≢true, true≢false}
-use Rattle.rules.specs.Bytes.{blank, name_byte, all}
-use Rattle.rules.specs.Markup.{name_ok, Tag, tag_ok, Content, end, empty, full, text, elements, Document, declaration, head, Marks}
+use Rattle.std.proofs.lemmas.Bool.{and_parts}
+use Rattle.rules.specs.Markup.{Content, text, Document, head, Marks}
 use Rattle.rules.specs.Located.{Elements, none, element, elements_of}
 use Rattle.rules.specs.declared.schema.Node.{Node}
-use Rattle.theory.specs.On.{attributes_on, tag_on, content_on}
-use Rattle.theory.proofs.Lists.{cons_head, cons_tail}
-use Rattle.theory.proofs.Unique.{marked, ok_marked, content_on_is}
+use Rattle.theory.specs.On.{content_on}
+use Rattle.theory.proofs.Unique.{content_on_is}
 use Rattle.theory.proofs.LawfulTree.{Placed as HasNodes, tree_good}
 use Rattle.walk.specs.Events.{met}
 use Rattle.walk.specs.Coming.{Placed, nothing, Coming, InOrder}

@@ -1,12 +1,11 @@
 -- A turn of a walk, from what its parts give.
-use Rattle.std.proofs.Common.{◌≡◌, ℕ, ◌+◌, ◌-◌, ◌<◌, ◌≤◌, Bool, true, false, ◌||◌, eqb, List, [], ◌∷◌, length, get_or, drop, IfSome, Some, None, Option, sym, refl, ap, ◌∙◌, subst, arith}
+use Rattle.std.proofs.Common.{◌≡◌, ℕ, ◌+◌, ◌<◌, ◌≤◌, ◌||◌, eqb, List, [], ◌∷◌, length, get_or, drop, IfSome, Some, None, Option, sym, refl, ap, ◌∙◌, subst, arith}
 use Rattle.std.proofs.lemmas.List.{drop_more, drop_all}
 use Rattle.rules.specs.Bytes.{blank}
 use Rattle.rules.specs.declared.schema.Node.{Node}
 use Rattle.tags.specs.Scan.{front, ended}
-use Rattle.walk.specs.Events.{Occurrence, told, Found}
+use Rattle.walk.specs.Events.{Occurrence}
 use Rattle.walk.specs.Coming.{Coming, Turns, Comes, Gives, shuts}
-use Rattle.walk.specs.declared.event.Event.{Event}
 use Rattle.walk.specs.declared.turn.Turn.{Turn}
 use Rattle.walk.specs.declared.cursor.Walk.{Walk}
 use Rattle.walk.proofs.Leaving.{all_met}

@@ -1,5 +1,5 @@
 -- What is still to come of a document from a place in it.
-use Rattle.std.specs.Prelude.{◌≡◌, ℕ, ◌+◌, ◌-◌, ◌<◌, Bool, true, false, ◌&&◌, ◌||◌, List, [], ◌∷◌, ◌++◌, length, drop, Some, None, Option, ◌==◌}
+use Rattle.std.specs.Prelude.{◌≡◌, ℕ, ◌+◌, ◌-◌, Bool, true, false, ◌&&◌, ◌||◌, List, [], ◌∷◌, ◌++◌, length, drop, Some, None, Option, ◌==◌}
 use Rattle.rules.specs.Bytes.{blank, all}
 use Rattle.rules.specs.Markup.{Content, content_ok, text, Document}
 use Rattle.rules.specs.Located.{Elements, none, element, located, elements_of}

@@ -1,4 +1,3 @@
-use Rattle.std.proofs.Common.{rules}
 use Rattle.invoice.proofs.Joined.{judged, passes}
 use Rattle.invoice.proofs.checking.check.Goals as goal
 

@@ -1,5 +1,4 @@
 use Rattle.std.proofs.Common.{◌≡◌, get_or, drop, codes, sym, ◌∙◌, arith}
-use Rattle.std.proofs.lemmas.Bool.Decides.{nat_tests}
 use Rattle.kinds.proofs.Steps.{text_fits, letter_plain, first_at}
 use Rattle.kinds.proofs.kept.letter.Goals as goal
 

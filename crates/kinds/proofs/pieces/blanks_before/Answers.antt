@@ -1,6 +1,4 @@
-use Rattle.std.proofs.Common.{sym, ap, ◌∙◌, arith}
-use Rattle.std.proofs.lemmas.List.{drop_all}
-use Rattle.kinds.specs.Pieces.{past_blanks}
+use Rattle.std.proofs.Common.{sym, ◌∙◌, arith}
 use Rattle.kinds.proofs.Trims.{past_more, past_stop, past_end}
 use Rattle.kinds.proofs.pieces.blanks_before.Goals as goal
 

@@ -1,5 +1,4 @@
-use Rattle.std.proofs.Common.{◌≡◌, sym, ap, ◌∙◌, rules}
-use Rattle.kinds.specs.Pieces.{trimmed}
+use Rattle.std.proofs.Common.{◌∙◌}
 use Rattle.kinds.proofs.Trims.{both_ends, kept_is_piece}
 use Rattle.kinds.proofs.pieces.piece.Goals as goal
 

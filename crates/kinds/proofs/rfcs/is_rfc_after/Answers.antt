@@ -1,5 +1,4 @@
 use Rattle.std.proofs.Common.{sym, ◌∙◌, arith}
-use Rattle.kinds.specs.Reading.{rest}
 use Rattle.kinds.proofs.Letters.{letter_none, letter_one, letter_other, letter_half, letter_two, letter_not, tail_is}
 use Rattle.kinds.proofs.rfcs.is_rfc_after.Goals as goal
 

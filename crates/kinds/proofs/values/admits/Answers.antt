@@ -1,10 +1,10 @@
-use Rattle.std.proofs.Common.{◌≡◌, ℕ, Bool, true, false, List, is_some, Some, None, Option, sym, ap, ◌∙◌, MatchOption}
+use Rattle.std.proofs.Common.{◌≡◌, ℕ, Bool, List, is_some, Some, None, Option, sym, ap, ◌∙◌}
 use Rattle.std.proofs.lemmas.Bool.{and_parts}
 use Rattle.rules.specs.Bytes.{same}
 use Rattle.rules.specs.Kept.{resolved, kept}
-use Rattle.rules.specs.Kinds.{fixed_text, date_time_ok, code_ok, amount_ok, admits, admitted, KindLaw}
+use Rattle.rules.specs.Kinds.{date_time_ok, code_ok, amount_ok, admits, admitted, KindLaw}
 use Rattle.rules.specs.declared.schema.Kind.{Kind}
-use Rattle.rules.specs.declared.schema.Kind.TheVariants.{Fixed, Text, Amount, Positive, DateTime, Digits, Mark, Rfc, Seal, Code}
+use Rattle.rules.specs.declared.schema.Kind.TheVariants.{Fixed, Text, Amount, Positive, DateTime, Digits, Mark, Rfc, Seal}
 use Rattle.theory.proofs.KindLaws.{kind_law}
 use Rattle.kinds.specs.declared.millionths.Amount.{Amount as Worth}
 use Rattle.kinds.proofs.AmountParts.{Reads}

@@ -1,4 +1,4 @@
-use Rattle.std.proofs.Common.{◌≡◌, ℕ, ◌<◌, true, cond, List, ◌++◌, drop, Some, None, Option, sym, subst}
+use Rattle.std.proofs.Common.{◌≡◌, ℕ, ◌<◌, true, cond, List, ◌++◌, drop, Some, Option, sym, subst}
 use Rattle.rules.specs.Bytes.{blank, all}
 use Rattle.rules.specs.Faults.{Judgement}
 use Rattle.rules.specs.Grounds.{NamesFault}

@@ -1,4 +1,4 @@
-use Rattle.std.proofs.Common.{◌≡◌, ◌+◌, sym, refl, ap, ◌∙◌, arith}
+use Rattle.std.proofs.Common.{◌≡◌, ◌+◌, sym, ap, ◌∙◌, arith}
 use Rattle.rules.specs.Grounds.{rows}
 use Rattle.tags.specs.Spans.{part}
 use Rattle.tags.proofs.Parts.{no_attributes}

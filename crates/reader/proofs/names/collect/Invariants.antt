@@ -1,4 +1,4 @@
-use Rattle.std.proofs.Common.{◌≡◌, ℕ, ◌+◌, ◌-◌, true, List, ◌++◌, length, drop, replicate, None}
+use Rattle.std.proofs.Common.{◌≡◌, ℕ, ◌-◌, true, List, ◌++◌, length, drop, replicate, None}
 use Rattle.rules.specs.Bytes.{blank, all}
 use Rattle.rules.specs.Grounds.{rows}
 use Rattle.rules.specs.Markup.{Attribute, attribute_ok}

@@ -1,4 +1,4 @@
-use Rattle.std.proofs.Common.{◌≡◌, sym, ap, ◌∙◌, inl, inr, arith}
+use Rattle.std.proofs.Common.{sym, ap, ◌∙◌, inl, inr, arith}
 use Rattle.reader.specs.Names.{lacks}
 use Rattle.reader.proofs.NameRows.{few_rows, lacks_here, lacks_later, lacks_none}
 use Rattle.reader.proofs.names.missing.Goals as goal

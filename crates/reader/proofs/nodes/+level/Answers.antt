@@ -1,11 +1,10 @@
-use Rattle.std.proofs.Common.{◌≡◌, ℕ, ◌+◌, ◌-◌, ◌<◌, ◌≤◌, true, false, List, length, get_or, take, drop, Some, None, Option, sym, refl, ap, ◌∙◌, inl, inr, arith}
+use Rattle.std.proofs.Common.{◌≡◌, ℕ, ◌+◌, ◌-◌, true, false, List, length, get_or, take, drop, Some, sym, refl, ap, ◌∙◌, inl, inr, arith}
 use lib.ListN.{length-map}
 use Rattle.std.proofs.lemmas.Result.{err_from_is_err_and}
 use Rattle.std.proofs.lemmas.Bool.{cond-true, cond-false}
 use Rattle.rules.specs.Markup.{Content, text, content_ok}
-use Rattle.rules.specs.Located.{Elements, located, none}
+use Rattle.rules.specs.Located.{located}
 use Rattle.rules.specs.Values.{under}
-use Rattle.rules.specs.declared.schema.Node.{Node}
 use Rattle.theory.specs.On.{content_on, ends}
 use Rattle.schema.specs.Meant.{child_meant}
 use Rattle.tags.proofs.Fronts.{lies_next}

@@ -1,4 +1,4 @@
-use Rattle.std.proofs.Common.{◌≡◌, ℕ, ◌+◌, ◌-◌, ◌<◌, ◌≤◌, true, List, length, drop}
+use Rattle.std.proofs.Common.{◌≡◌, ℕ, ◌+◌, ◌-◌, ◌≤◌, true, List, length, drop}
 use Rattle.rules.specs.Markup.{Content, text, content_ok}
 use Rattle.rules.specs.Located.{located}
 use Rattle.theory.specs.On.{content_on, ends}

@@ -1,5 +1,4 @@
-use Rattle.std.proofs.Common.{◌≡◌, ℕ, true, false, List, Some, Option, sym, refl, ap, ◌∙◌, arith, below_more}
-use Rattle.rules.specs.Register.{nth}
+use Rattle.std.proofs.Common.{◌≡◌, ℕ, true, false, List, Some, Option, refl, ap, ◌∙◌, arith, below_more}
 use Rattle.promises.proofs.Stored.{length_decoded, entry_within, absent_all}
 use Rattle.register.specs.States.{texts}
 use Rattle.register.proofs.Stored.find.Goals as goal

@@ -1,4 +1,4 @@
-use Rattle.std.proofs.Common.{◌≡◌, ap, ◌∙◌, ⊎_elim, arith, rules}
+use Rattle.std.proofs.Common.{ap, ◌∙◌, ⊎_elim, arith, rules}
 use Rattle.rules.specs.Register.{nth}
 use Rattle.promises.proofs.Stored.{length_decoded, no_entry_zero, no_entry_past}
 use Rattle.register.specs.States.{texts}

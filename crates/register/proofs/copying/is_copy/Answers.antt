@@ -1,4 +1,4 @@
-use Rattle.std.proofs.Common.{◌≡◌, ℕ, false, length, sym, ap, ◌∙◌, arith}
+use Rattle.std.proofs.Common.{◌≡◌, ℕ, length, ap, ◌∙◌, arith}
 use Rattle.register.proofs.copying.is_copy.Goals as goal
 
 pub returns-then-text-copy_length : goal.returns-then-text-copy_length

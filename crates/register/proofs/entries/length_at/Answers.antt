@@ -1,6 +1,5 @@
 use Rattle.std.proofs.Common.{add-zero}
 use Rattle.std.proofs.lemmas.List.{get_or-drop}
-use Rattle.promises.specs.Stored.{number}
 use Rattle.register.proofs.entries.length_at.Goals as goal
 
 pub returns : goal.returns

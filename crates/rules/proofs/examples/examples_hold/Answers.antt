@@ -2,8 +2,7 @@ use Rattle.std.proofs.Common.{◌≡◌, ℕ, false, refl, arith}
 use lib.Utf8.{encode}
 use Rattle.std.specs.Str.{chars}
 use Rattle.rules.specs.Examples.{plain, with_serie, with_folio, with_point}
-use Rattle.rules.specs.Texts.{fair, fair_copy}
-use Rattle.rules.specs.Grounds.{HasValues}
+use Rattle.rules.specs.Texts.{fair}
 use Rattle.rules.proofs.examples.examples_hold.Goals as goal
 
 serie_and_folio : with_serie ≡ with_folio → ⊥

@@ -1,6 +1,6 @@
-use Rattle.std.proofs.Common.{◌≡◌, sym, refl, ap, ◌∙◌, arith}
+use Rattle.std.proofs.Common.{sym, refl, ap, ◌∙◌}
 use Rattle.std.proofs.lemmas.Slice.Eq.{slice_eq-Decides}
-use Rattle.rules.specs.Values.{named, placed}
+use Rattle.rules.specs.Values.{named}
 use Rattle.schema.proofs.Named.{carries, passes, none_left}
 use Rattle.schema.proofs.places.placed.Goals as goal
 use Rattle.std.proofs.lemmas.Bool.Decides.{Decides-eqb}

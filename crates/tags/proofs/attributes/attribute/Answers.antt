@@ -1,12 +1,7 @@
-use Rattle.std.proofs.Common.{◌≡◌, ℕ, ◌+◌, ◌<◌, ◌≤◌, true, false, ◌||◌, eqb, List, ◌∷◌, length, get_or, drop, Some, sym, refl, ap, ◌∙◌, arith}
+use Rattle.std.proofs.Common.{◌≡◌, ◌+◌, get_or, drop, Some, refl, ap, arith}
 use Rattle.std.proofs.lemmas.Bool.Decides.{nat_tests}
-use Rattle.std.proofs.lemmas.Bool.{and_parts}
-use Rattle.rules.specs.Bytes.{name_byte}
-use Rattle.rules.specs.Markup.{Attribute, attribute_ok}
-use Rattle.theory.specs.On.{attribute_on}
 use Rattle.tags.specs.Scan.{front, other}
-use Rattle.tags.proofs.Fronts.{lies_less, lies_head}
-use Rattle.tags.proofs.Parts.{Steps, steps, spans_are, tag_ends, no_slash, no_angle}
+use Rattle.tags.proofs.Parts.{steps, spans_are, tag_ends, no_slash, no_angle}
 use Rattle.tags.proofs.attributes.attribute.Goals as goal
 use Rattle.tags.proofs.attributes.attribute.Goals.{then-name-document-via-then-name-document, then-name-document-via-else-name-document+then-document-name-eq47, then-name-document-via-else-name-document+else-document-name-eq47+then-document-name-eq62}
 

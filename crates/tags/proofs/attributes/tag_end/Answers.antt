@@ -1,4 +1,4 @@
-use Rattle.std.proofs.Common.{◌≡◌, ◌+◌, [], ◌++◌, length, drop, sym, refl, ap, ◌∙◌, arith}
+use Rattle.std.proofs.Common.{◌≡◌, ◌+◌, ◌++◌, length, drop, refl, ap, ◌∙◌, arith}
 use Rattle.rules.specs.Bytes.{blank}
 use Rattle.rules.specs.Markup.{attributes_text}
 use Rattle.theory.specs.On.{attributes_on}

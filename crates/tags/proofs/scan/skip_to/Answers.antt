@@ -1,4 +1,4 @@
-use Rattle.std.proofs.Common.{sym, ◌∙◌, arith}
+use Rattle.std.proofs.Common.{◌∙◌, arith}
 use Rattle.tags.specs.Scan.{other}
 use Rattle.tags.proofs.Fronts.{front_more, front_stop, front_end, other_true, other_false}
 use Rattle.tags.proofs.scan.skip_to.Goals as goal

@@ -1,4 +1,4 @@
-use Rattle.std.proofs.Common.{◌≡◌, ℕ, ◌+◌, Some, None, sym, refl, ap, ◌∙◌, ⊎_elim, arith}
+use Rattle.std.proofs.Common.{◌≡◌, ℕ, Some, None, sym, refl, ◌∙◌, ⊎_elim, arith}
 use Rattle.walk.proofs.Into.{enters_from, into_turns}
 use Rattle.walk.proofs.turn.enter.Goals as goal
 

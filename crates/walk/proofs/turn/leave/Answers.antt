@@ -1,4 +1,4 @@
-use Rattle.std.proofs.Common.{◌≡◌, ℕ, ◌+◌, Some, None, sym, refl, ◌∙◌, arith}
+use Rattle.std.proofs.Common.{◌≡◌, ℕ, Some, None, sym, refl, ◌∙◌, arith}
 use Rattle.theory.specs.Schema.{parent}
 use Rattle.walk.proofs.Leaving.{leaves, left_turns}
 use Rattle.walk.proofs.Passing.{through_some}

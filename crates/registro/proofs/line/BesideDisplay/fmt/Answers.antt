@@ -1,4 +1,4 @@
-use Rattle.std.proofs.Common.{◌≡◌, ℕ, [], ◌∷◌, sym, refl, ap, ◌∙◌, subst}
+use Rattle.std.proofs.Common.{◌≡◌, [], ◌∷◌, sym, refl, ap, ◌∙◌, subst}
 use lib.Utf8.{encode}
 use Rattle.rules.specs.Faults.{letter_of}
 use Rattle.rules.specs.declared.grounds.Rule.{Rule}
