@@ -1,6 +1,6 @@
 // The ruled set, which knows codes by their form.
 ghost use Rattle.std.specs.Prelude.{◌≡◌};
-ghost use Rattle.rules.specs.Catalogues.{ruled, by_form, when};
+ghost use Rattle.rules.specs.Catalogues.{ruled, by_form as by_form_of, when};
 ghost use Rattle.theory.proofs.CatalogueLaws.{ruled_bounded};
 
 use crate::codes::{all_digits, is_code, is_same};
@@ -20,7 +20,7 @@ fn whole_if(known: bool) -> Option<u8>
 
 // What the ruled set knows of a text that is a code.
 fn by_form(catalogue: Catalogue, code: &[u8]) -> Option<u8>
-    ensures { result ≡ by_form catalogue code.now }
+    ensures { result ≡ by_form_of catalogue code.now }
 {
     match catalogue {
         Catalogue::CodigoPostal => whole_if(code.len() == 5 && all_digits(code)),

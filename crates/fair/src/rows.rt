@@ -1,6 +1,6 @@
 // The attributes of a tag of the fair copy, by the rows of its node.
 ghost use Rattle.std.specs.Prelude.{◌≡◌, is_ok, Some, None, MatchOption};
-ghost use Rattle.rules.specs.Grounds.{rows as «rows_of_lem»};
+ghost use Rattle.rules.specs.Grounds.{rows as rows_of};
 ghost use Rattle.rules.specs.Markup.{attributes_text};
 ghost use Rattle.rules.specs.Texts.{fair_attributes};
 ghost use Rattle.schema.specs.Meant.{row_meant};
@@ -50,7 +50,7 @@ pub fn write_attributes<W: Writer>(
     node: Node,
     slots: &Slots,
 ) -> Result<(), Refused>
-    ensures { Written W.Writer.writing to.old (attributes_text (fair_attributes («rows_of_lem» node) (row_values document.now («rows_of_lem» node) slots.now.spans))) (is_ok result) to.new }
+    ensures { Written W.Writer.writing to.old (attributes_text (fair_attributes (rows_of node) (row_values document.now (rows_of node) slots.now.spans))) (is_ok result) to.new }
 {
     let rows = rows(node);
     for i in 0..rows.len() {

@@ -1,7 +1,7 @@
 // The values of the attributes of a document.
 ghost use Rattle.std.specs.Prelude.{◌≡◌, List, IfOk};
 ghost use Rattle.rules.specs.Faults.{Judgement, fault_of};
-ghost use Rattle.rules.specs.Grounds.{rows as «rows_of_lem», ValuesFault, decimals as decimals_of_moneda};
+ghost use Rattle.rules.specs.Grounds.{rows as rows_of, ValuesFault, decimals as decimals_of_moneda};
 ghost use Rattle.rules.specs.Located.{Given, elements_of};
 ghost use Rattle.rules.specs.Markup.{Document, Marks};
 ghost use Rattle.rules.specs.Values.{values_of};
@@ -21,7 +21,7 @@ use walk::{Event, Walk};
 
 /// The kind of the attribute of a node that has this name.
 fn kind_of(node: Node, name: &[u8]) -> Option<Kind>
-    ensures { result ≡ kind_named («rows_of_lem» node) name.now }
+    ensures { result ≡ kind_named (rows_of node) name.now }
 {
     for row in rows(node) {
         if row.name == name {

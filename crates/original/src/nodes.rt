@@ -1,6 +1,6 @@
 // What each node of a document gives to its cadena.
 ghost use Rattle.std.specs.Prelude.{◌≡◌, List};
-ghost use Rattle.rules.specs.Grounds.{rows as «rows_of_lem»};
+ghost use Rattle.rules.specs.Grounds.{rows as rows_of};
 ghost use Rattle.rules.specs.Located.{Given};
 ghost use Rattle.reader.specs.Slots.{Filled};
 ghost use Rattle.walk.specs.Events.{Occurrence, told};
@@ -17,7 +17,7 @@ use walk::{Event, Opened};
 
 /// Where the attributes of a node stand; nowhere, if there is a fault in their names.
 fn slots_of(document: &[u8], found: Opened) -> Slots
-    ensures { (gs : List Given) → Sound document.now found.node found.place found.attributes gs → Filled document.now («rows_of_lem» found.node) gs result.spans }
+    ensures { (gs : List Given) → Sound document.now found.node found.place found.attributes gs → Filled document.now (rows_of found.node) gs result.spans }
 {
     match attributes(document, found.place, found.attributes, found.node) {
         Ok(slots) => slots,

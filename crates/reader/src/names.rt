@@ -3,11 +3,11 @@ ghost use Rattle.std.specs.Prelude.{◌≡◌, ℕ, ◌<◌, ◌≤◌, Bool, tr
 ghost use Rattle.rules.specs.Bytes.{blank, all};
 ghost use Rattle.rules.specs.Faults.{Judgement, fault_of};
 ghost use Rattle.rules.specs.declared.grounds.Fault.TheVariants.{AttributeMissing};
-ghost use Rattle.rules.specs.Grounds.{rows as «rows_of_lem», NamesFault};
+ghost use Rattle.rules.specs.Grounds.{rows as rows_of, NamesFault};
 ghost use Rattle.rules.specs.Located.{givens};
 ghost use Rattle.rules.specs.Markup.{Attribute, attribute_ok};
 ghost use Rattle.theory.specs.On.{attributes_on, closes};
-ghost use Rattle.reader.specs.Names.{row_at, taken as «taken_in», with_span, filled, refusal, or_here as or_here_of, lacks, refusing};
+ghost use Rattle.reader.specs.Names.{row_at, taken as taken_in, with_span, filled, refusal, or_here as or_here_of, lacks, refusing};
 ghost use Rattle.reader.specs.Slots.{standing_of, Filled};
 
 use rules::{Fault, Node};
@@ -33,7 +33,7 @@ impl Slots {
     fn put(&mut self, row: Option<usize>, value: Span) -> bool
         requires { IfSome row (λ j. j < 22) }
         ensures after { self.new.spans ≡ with_span row self.old.spans value }
-        ensures taken { result ≡ «taken_in» row self.old.spans }
+        ensures taken { result ≡ taken_in row self.old.spans }
     {
         match row {
             Some(j) => {
@@ -50,7 +50,7 @@ impl Slots {
 
 /// The row of a node that has this name.
 fn row_of(node: Node, name: &[u8]) -> Option<usize>
-    ensures is { result ≡ row_at («rows_of_lem» node) 0 name.now }
+    ensures is { result ≡ row_at (rows_of node) 0 name.now }
     ensures within { IfSome result (λ j. j < 22) }
 {
     let rows = rows(node);
@@ -83,7 +83,7 @@ pub struct Collected {
 
 /// Goes through the attributes of the tag of a node, which begin at `at`.
 fn collect(document: &[u8], at: usize, node: Node) -> Collected
-    ensures { (l : List Attribute) (g z : List ℕ) → all attribute_ok l ≡ true → all blank g ≡ true → closes z ≡ true → drop at document.now ≡ attributes_on l (g ++ z) → (result.slots.spans ≡ filled («rows_of_lem» node) (replicate 22 None) at l) × (result.refused ≡ refusal («rows_of_lem» node) (replicate 22 None) at l) }
+    ensures { (l : List Attribute) (g z : List ℕ) → all attribute_ok l ≡ true → all blank g ≡ true → closes z ≡ true → drop at document.now ≡ attributes_on l (g ++ z) → (result.slots.spans ≡ filled (rows_of node) (replicate 22 None) at l) × (result.refused ≡ refusal (rows_of node) (replicate 22 None) at l) }
 {
     let mut slots = Slots { spans: [None; 22] };
     let mut refused = None;
@@ -99,7 +99,7 @@ fn collect(document: &[u8], at: usize, node: Node) -> Collected
 
 /// Whether a required row has an empty slot.
 fn missing(node: Node, slots: &Slots) -> bool
-    ensures { result ≡ lacks («rows_of_lem» node) 0 slots.now.spans }
+    ensures { result ≡ lacks (rows_of node) 0 slots.now.spans }
 {
     let rows = rows(node);
     let mut row = 0;
@@ -128,7 +128,7 @@ fn first_fault(lacking: bool, refused: Option<usize>, node_at: usize) -> Option<
 /// Judges the names of the attributes of one tag, which begin at `at`, for a node whose `<` stands at `node_at`; and gives, where they are lawful, a slot for each row.
 pub fn attributes(document: &[u8], node_at: usize, at: usize, node: Node) -> Result<Slots, Fault>
     ensures judges { (l : List Attribute) (g z : List ℕ) → all attribute_ok l ≡ true → all blank g ≡ true → closes z ≡ true → drop at document.now ≡ attributes_on l (g ++ z) → node_at < at → Judgement (NamesFault (standing_of node node_at (givens at l))) (fault_of result) }
-    ensures holds { (l : List Attribute) (g z : List ℕ) → all attribute_ok l ≡ true → all blank g ≡ true → closes z ≡ true → drop at document.now ≡ attributes_on l (g ++ z) → IfOk result (λ s. Filled document.now («rows_of_lem» node) (givens at l) s.spans) }
+    ensures holds { (l : List Attribute) (g z : List ℕ) → all attribute_ok l ≡ true → all blank g ≡ true → closes z ≡ true → drop at document.now ≡ attributes_on l (g ++ z) → IfOk result (λ s. Filled document.now (rows_of node) (givens at l) s.spans) }
 {
     let collected = collect(document, at, node);
     let lacking = missing(node, &collected.slots);

@@ -4,9 +4,9 @@ ghost use Rattle.rules.specs.Faults.{Judgement, fault_of};
 ghost use Rattle.rules.specs.Grounds.{TreeFault};
 ghost use Rattle.rules.specs.Located.{located, elements_of};
 ghost use Rattle.rules.specs.Markup.{Content, text, content_ok, Document, Marks, head};
-ghost use Rattle.rules.specs.Values.{under as «under_of»};
+ghost use Rattle.rules.specs.Values.{under as under_of};
 ghost use Rattle.theory.specs.On.{content_on, ends};
-ghost use Rattle.reader.specs.Tree.{step as «step_of_lem», finished, wants_child as wants_child_of, tree_first, answer};
+ghost use Rattle.reader.specs.Tree.{step as step_of, finished, wants_child as wants_child_of, tree_first, answer};
 
 use rules::{Fault, Node};
 use schema::{children, needs_child, tag};
@@ -24,8 +24,8 @@ const NONE_YET: Progress = Progress { row: 0, count: 0 };
 
 /// How far a child of this name brings the children, if it may stand there.
 fn step(under: Option<Node>, from: Progress, name: &[u8]) -> Option<Progress>
-    ensures is { result ≡ «step_of_lem» (drop from.row («under_of» under)) from.row from.count name.now }
-    ensures within { IfSome result (λ s. s.row < length («under_of» under)) }
+    ensures is { result ≡ step_of (drop from.row (under_of under)) from.row from.count name.now }
+    ensures within { IfSome result (λ s. s.row < length (under_of under)) }
 {
     let rows = children(under);
     let mut row = from.row;

@@ -3,7 +3,7 @@ ghost use Rattle.std.specs.Prelude.{◌≡◌, ℕ, ◌+◌, ◌<◌, ◌≤◌,
 ghost use Rattle.rules.specs.Grounds.{HasValues};
 ghost use Rattle.rules.specs.Register.{nth, Absent, Pairwise, lines};
 ghost use Rattle.rules.specs.Values.{Values};
-ghost use Rattle.promises.specs.Stored.{number as «number_at»};
+ghost use Rattle.promises.specs.Stored.{number as number_at};
 ghost use Rattle.sinks.specs.Writers.{Written};
 ghost use Rattle.register.specs.Copied.{CopyOf};
 ghost use Rattle.register.specs.States.{texts, place_after};
@@ -15,7 +15,7 @@ use sinks::{Refused, Writer};
 /// The length that the four bytes at a place tell.
 fn length_at(memory: &[u8], at: usize) -> usize
     requires { at + 4 ≤ length memory.now }
-    ensures { result ≡ «number_at» (drop at memory.now) }
+    ensures { result ≡ number_at (drop at memory.now) }
 {
     let a = memory[at] as usize;
     let b = memory[at + 1] as usize;

@@ -1,6 +1,6 @@
 // The attributes of each node.
 ghost use Rattle.std.specs.Prelude.{◌≡◌, map};
-ghost use Rattle.rules.specs.Grounds.{rows as «rows_of_lem»};
+ghost use Rattle.rules.specs.Grounds.{rows as rows_of};
 ghost use Rattle.rules.specs.Kinds.{fixed_text};
 ghost use Rattle.schema.specs.Meant.{row_meant};
 
@@ -38,7 +38,7 @@ macro_rules! sealed {
 
 /// The attributes that a node may have: those that fix the namespaces, then the others in the order of the cadena.
 pub fn rows(node: Node) -> &'static [Row]
-    ensures { map row_meant result.now ≡ «rows_of_lem» node }
+    ensures { map row_meant result.now ≡ rows_of node }
 {
     match node {
         Node::Comprobante => &[

@@ -1,9 +1,9 @@
 // The places of the nodes: their tags, their children and their parents.
 ghost use Rattle.std.specs.Prelude.{◌≡◌, map};
-ghost use Rattle.rules.specs.Schema.{tag as «tag_of», is, needs_child as needs_child_of};
-ghost use Rattle.rules.specs.Values.{under as «under_of», placed as Placed_of};
+ghost use Rattle.rules.specs.Schema.{tag as tag_of, is, needs_child as needs_child_of};
+ghost use Rattle.rules.specs.Values.{under as under_of, placed as placed_of};
 ghost use Rattle.schema.specs.Meant.{child_meant};
-ghost use Rattle.theory.specs.Schema.{parent as «parent_of»};
+ghost use Rattle.theory.specs.Schema.{parent as parent_of};
 
 use rules::Node;
 
@@ -24,7 +24,7 @@ macro_rules! child {
 
 /// The children that may stand under a node, in order; `None` is the document's own level.
 pub fn children(under: Option<Node>) -> &'static [Child]
-    ensures { map child_meant result.now ≡ «under_of» under }
+    ensures { map child_meant result.now ≡ under_of under }
 {
     match under {
         None => &[child!(Node::Comprobante, 1, 1)],
@@ -59,7 +59,7 @@ pub fn children(under: Option<Node>) -> &'static [Child]
 
 /// The name that a node's tags carry.
 pub fn tag(node: Node) -> &'static [u8]
-    ensures { result.now ≡ «tag_of» node }
+    ensures { result.now ≡ tag_of node }
 {
     match node {
         Node::Comprobante => b"cfdi:Comprobante",
@@ -99,7 +99,7 @@ pub fn needs_child(node: Node) -> bool
 
 /// The node that a node stands under; the Comprobante stands at the document's own level.
 pub fn parent(node: Node) -> Option<Node>
-    ensures { result ≡ «parent_of» node }
+    ensures { result ≡ parent_of node }
 {
     match node {
         Node::Comprobante => None,
@@ -122,7 +122,7 @@ pub fn parent(node: Node) -> Option<Node>
 
 /// The node that a name means under another.
 pub fn placed(under: Option<Node>, name: &[u8]) -> Option<Node>
-    ensures { result ≡ Placed_of under name.now }
+    ensures { result ≡ placed_of under name.now }
 {
     for child in children(under) {
         if tag(child.node) == name {

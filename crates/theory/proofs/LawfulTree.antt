@@ -140,3 +140,15 @@ clear_shorter facts d m c h = rw (← h.1) (copy_shorter m h.0 (clear_good facts
 -- a lawful document is such a one
 pub lawful_clear : (facts : Facts) (d : List ℕ) (m : Document) → Lawful facts d → Marks d m → Clear facts d m
 lawful_clear facts d m l h = record { in_order = λ f t. l f (tree m f h t); clean_nodes = λ s i. (λ f n. l f (names m s f h i n), λ f n. l f (values m s f h i n)) }
+
+-- so a lawful document is good
+pub lawful_good : (facts : Facts) (d : List ℕ) (m : Document) → Lawful facts d → Marks d m → Good facts m
+lawful_good facts d m l h = clear_good facts d m (lawful_clear facts d m l h)
+
+-- it has whole values
+pub lawful_whole : (facts : Facts) (d : List ℕ) (m : Document) → Lawful facts d → Marks d m → Whole (values_of (elements_of m))
+lawful_whole facts d m l h = clear_whole facts d m (lawful_clear facts d m l h)
+
+-- and its fair copy is never longer
+pub never_longer : (facts : Facts) (d : List ℕ) (m : Document) → Lawful facts d → Marks d m → length (fair_copy (values_of (elements_of m))) ≤ length d
+never_longer facts d m l h = clear_shorter facts d m (lawful_clear facts d m l h) h
