@@ -1,8 +1,8 @@
 -- A fault of one layer is the first of the document, where the layers before it find nothing.
-use Rattle.std.proofs.Common.{◌≡◌, ℕ, true, List, [], length, IfOk, Some, None, Ok, Err, Result, arith}
+use Rattle.std.proofs.Common.{◌≡◌, ℕ, ◌≤◌, true, List, [], length, IfOk, Some, None, Ok, Err, Result, arith}
 use Rattle.rules.specs.Catalogues.{Facts}
 use Rattle.rules.specs.Faults.{rank, not_after, FirstOf, Judgement, fault_of}
-use Rattle.rules.specs.Grounds.{LettersFault, MarkupFault, not_well_marked, TreeFault, standing, NamesFault, ValuesFault, decimals, Finds, letters, markup, tree, names, values, accounts}
+use Rattle.rules.specs.Grounds.{LettersFault, MarkupFault, not_well_marked, TreeFault, standing, NamesFault, ValuesFault, decimals, Finds, First, letters, markup, tree, names, values, accounts}
 use Rattle.rules.specs.Located.{elements_of}
 use Rattle.rules.specs.Markup.{Document, Marks, WellMarked}
 use Rattle.rules.specs.Values.{values_of}
@@ -13,7 +13,12 @@ use Rattle.theory.proofs.FirstLaws.{letters_layer, markup_layer, tree_layer, nam
 use Rattle.theory.proofs.Verdicts.{marked_judged, unmarked_judged}
 use Rattle.walk.specs.Coming.{InOrder}
 use Rattle.layers.specs.Found.{NamesFound, ValuesFound}
-use Rattle.layers.specs.Layers.{EarlyFirst, LayersJudged, EarlyFault}
+use Rattle.layers.specs.Layers.{LayersJudged, EarlyFault}
+
+-- the first fault of a document under a set, of a layer up to values
+pub record EarlyFirst (facts : Facts) (d : List ℕ) (f : Fault) : Type 0 where
+  pub first : First facts d f
+  pub early : (rank f).layer ≤ 5
 
 pub letters_first : (facts : Facts) (d : List ℕ) (f : Fault) → FirstOf (LettersFault d) f → EarlyFirst facts d f
 letters_first facts d f h = record { first = (letters f h.0, least); early = omega (arith, letters_layer h.0) }

@@ -2,7 +2,7 @@
 use Rattle.std.specs.Prelude.{◌≡◌, ℕ, ◌≤◌, List, Ok, Err, Result}
 use Rattle.rules.specs.Catalogues.{Facts}
 use Rattle.rules.specs.Faults.{rank, FirstOf}
-use Rattle.rules.specs.Grounds.{LettersFault, decimals, Finds, First}
+use Rattle.rules.specs.Grounds.{LettersFault, decimals, Finds}
 use Rattle.rules.specs.Located.{elements_of}
 use Rattle.rules.specs.Markup.{Document, Marks, WellMarked}
 use Rattle.rules.specs.Values.{values_of}
@@ -17,11 +17,6 @@ pub record Passed (facts : Facts) (d : List ℕ) (m : Document) (n : ℕ) : Type
   pub names : (f : Fault) → NamesFound m f → ⊥
   pub values : (f : Fault) → ValuesFound facts m f → ⊥
   pub has_decimals : n ≡ decimals facts (values_of (elements_of m))
-
--- the first fault of a document under a set, of a layer up to values
-pub record EarlyFirst (facts : Facts) (d : List ℕ) (f : Fault) : Type 0 where
-  pub first : First facts d f
-  pub early : (rank f).layer ≤ 5
 
 -- the first fault of the document, or a document that passes the layers up to values
 abbrev pub LayersJudged : Facts → List ℕ → Result ℕ Fault → Type 0

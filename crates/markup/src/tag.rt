@@ -128,7 +128,7 @@ impl StartTag {
     }
 
     /// Skips what is left of an attribute's name, or plain bytes of a value, which leave the tag in its state.
-    pub fn skip(&self, doc: &[u8], at: usize) -> usize
+    pub(crate) fn skip(&self, doc: &[u8], at: usize) -> usize
         requires { at ≤ length doc.now }
         ensures { Stays self.now.state doc.now at result }
     {
