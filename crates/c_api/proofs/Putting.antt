@@ -15,7 +15,11 @@ use Rattle.c_api.specs.Told.{Filled, Put, nothing, filled}
 -- a text of a document was sent to a buffer, which was s and is s'
 abbrev pub Sending : Facts → List ℕ → (Values → List ℕ) → Buffer → Result (Unit {0}) Fault → Buffer → Type 0
 Sending =
-    Answered (λ s. take s.count s.room.now) (λ s. buffer_rule (length s.room.now)) (both_stay (room_stays (λ s. s.count) (λ s. s.room.now)) (same_stays (λ s. s.room.ghost_name)))
+    Answered (record {
+      taken = λ s. take s.count s.room.now;
+      allows = λ s. buffer_rule (length s.room.now);
+      stays = both_stay (room_stays (λ s. s.count) (λ s. s.room.now)) (same_stays (λ s. s.room.ghost_name));
+    })
 
 -- the buffer keeps the memory that it was lent
 pub same_room : {facts : Facts} {d : List ℕ} {text : Values → List ℕ} {s s' : Buffer} {r : Result (Unit {0}) Fault} → Sending facts d text s r s' → s'.room.ghost_name ≡ s.room.ghost_name

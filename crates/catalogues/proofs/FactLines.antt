@@ -9,7 +9,7 @@ use Rattle.rules.specs.Catalogues.{catalogue_name, Fact, fact_ok, fact_text, bef
 use Rattle.rules.specs.declared.schema.Catalogue.{Catalogue}
 use Rattle.rules.specs.declared.schema.Catalogue.TheVariants.{FormaPago, Moneda, TipoDeComprobante, Exportacion, MetodoPago, CodigoPostal, RegimenFiscal, ResidenciaFiscal, UsoCFDI, ClaveProdServ, ClaveUnidad, ObjetoImp, Impuesto, TipoFactor}
 use Rattle.theory.proofs.Bytes.{same_is}
-use Rattle.catalogues.specs.Lines.{key_of, asked, last_of, named_from, pair_ok, fact_line}
+use Rattle.catalogues.specs.Lines.{key_of, asked, last_of, is_named, pair_ok, fact_line}
 
 -- names of catalogues have no bar, and each is found by its own name
 name_law : (c : Catalogue) → (all no_bar (catalogue_name c) ≡ true) × (named_among catalogues (catalogue_name c) ≡ Some c)
@@ -58,10 +58,10 @@ asked_is c d s r e =
     (cc, k)
 
 asked_ok : (c : Catalogue) (s : List ℕ) → code_ok s ≡ true → pair_ok (asked c s) ≡ true
-unfolding named_from
+unfolding is_named
 asked_ok c s h =
     let n : named_among catalogues (before_bar (asked c s)) ≡ Some c = ap (named_among catalogues) (asked_before c s) ∙ (name_law c).1 in
-    and_from (named_from 0 (before_bar (asked c s))) (code_ok (after_bar (asked c s))) (ap is_some n) (ap code_ok (asked_after c s) ∙ h)
+    and_from (is_named (before_bar (asked c s))) (code_ok (after_bar (asked c s))) (ap is_some n) (ap code_ok (asked_after c s) ∙ h)
 
 bar_split : (k : List ℕ) → 0 < length (after_bar k) → k ≡ before_bar k ++ 124 ∷ after_bar k
 bar_split [] h = absurd (omega arith)
@@ -72,13 +72,13 @@ bar_split (b ∷ k) h =
     (cases_Bool (eqb b 124))
 
 pair_is : (k : List ℕ) → pair_ok k ≡ true → (c : Catalogue) × (s : List ℕ) × (code_ok s ≡ true) × (k ≡ asked c s)
-unfolding named_from
+unfolding is_named
 pair_is k h = go (named_among catalogues (before_bar k)) refl (and_parts _ (code_ok (after_bar k)) h).0
   where
     go : (o : Option Catalogue) → named_among catalogues (before_bar k) ≡ o → is_some o ≡ true → (c : Catalogue) × (s : List ℕ) × (code_ok s ≡ true) × (k ≡ asked c s)
     go None e x = absurd (false≢true x)
     go (Some c) e x =
-        let v = (and_parts (named_from 0 (before_bar k)) _ h).1 in
+        let v = (and_parts (is_named (before_bar k)) _ h).1 in
         let g : 0 < length (after_bar k) = leb-true _ _ (and_parts _ _ (and_parts _ _ v).0).0 in
         (c, after_bar k, v, bar_split k g ∙ ap (λ n. n ++ 124 ∷ after_bar k) (sym (named_is catalogues _ c e)))
 
@@ -130,16 +130,6 @@ fact_key f = ap key_of (text_is f) ∙ key_before (asked f.catalogue f.key) 124 
 pub fact_last : (f : Fact) → last_of (fact_text f) - 48 ≡ f.decimals
 fact_last f = let e : last_of (fact_text f) ≡ 48 + f.decimals = ap last_of (text_is f) ∙ last_is (asked f.catalogue f.key) 124 (48 + f.decimals) in omega arith
 
-pub two_bytes : (l : List ℕ) → fact_line l ≡ true → 2 ≤ length l
-two_bytes l h = leb-true _ _ (and_parts _ _ h).0
-
-pub digit_from : (l : List ℕ) → fact_line l ≡ true → 48 ≤ last_of l
-digit_from l h =
-    let (_, h₁) = and_parts (leb 2 (length l)) _ h in
-    let (_, h₂) = and_parts (eqb (get_or l (length l - 2) 0) 124) _ h₁ in
-    let (d, _) = and_parts (is_in_range 48 54 (last_of l)) _ h₂ in
-    leb-true _ _ (and_parts (leb 48 (last_of l)) _ d).0
-
 pub fact_told : (l : List ℕ) → fact_line l ≡ true → (f : Fact) × (fact_ok f ≡ true) × (l ≡ fact_text f)
 fact_told l h =
     let (a, h₁) = and_parts (leb 2 (length l)) _ h in
@@ -157,20 +147,3 @@ fact_told l h =
         let lo = leb-true 48 b u in
         let hi = leb-true b 54 v in
         (omega arith, omega arith)
-
--- the longest name has 17 bytes
-pub name_short : (c : Catalogue) → length (catalogue_name c) ≤ 17
-name_short FormaPago = omega arith
-name_short Moneda = omega arith
-name_short TipoDeComprobante = omega arith
-name_short Exportacion = omega arith
-name_short MetodoPago = omega arith
-name_short CodigoPostal = omega arith
-name_short RegimenFiscal = omega arith
-name_short ResidenciaFiscal = omega arith
-name_short UsoCFDI = omega arith
-name_short ClaveProdServ = omega arith
-name_short ClaveUnidad = omega arith
-name_short ObjetoImp = omega arith
-name_short Impuesto = omega arith
-name_short TipoFactor = omega arith

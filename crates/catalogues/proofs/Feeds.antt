@@ -1,7 +1,8 @@
 -- Lines and line feeds of a text.
-use Rattle.std.proofs.Common.{◌≡◌, ℕ, zero, suc, ◌+◌, ◌<◌, ◌≤◌, cond, eqb, List, [], ◌∷◌, ◌++◌, length, get_or, take, drop, sym, refl, ap, ◌∙◌, ⊎_elim, append_assoc, append-nil, arith, length-append}
-use Rattle.std.proofs.lemmas.List.{at_drop_more, at_drop_all}
-use Rattle.std.proofs.lemmas.Bool.{cases_Bool, cond-true, cond-false, eq-eqb, ne_eqb}
+use Rattle.std.proofs.Common.{◌≡◌, ℕ, zero, suc, ◌+◌, ◌<◌, ◌≤◌, cond, eqb, List, [], ◌∷◌, ◌++◌, length, take, drop, sym, refl, ap, ◌∙◌, ⊎_elim, append_assoc, append-nil, arith, length-append}
+use Rattle.std.specs.List.{count_by}
+use Rattle.std.proofs.lemmas.List.Recursion.{is_count_by}
+use Rattle.std.proofs.lemmas.Bool.{cases_Bool, eqb-true}
 use Rattle.rules.specs.Catalogues.{ended_from, rest_from, start_after}
 use Rattle.catalogues.specs.Lines.{before_feed}
 
@@ -65,6 +66,16 @@ ended_none line (x ∷ s) h =
     (λ e.
     let h' : length (x ∷ s) ≤ length (x ∷ before_feed s) = rw e at h in
     rw e (ended_none (line ++ x ∷ []) s (omega arith)))
+    (cases_Bool (eqb x 10))
+
+pub feed_split : (s : List ℕ) → length (before_feed s) < length s → s ≡ before_feed s ++ 10 ∷ drop (suc (length (before_feed s))) s
+feed_split [] h = absurd (omega arith)
+feed_split (x ∷ s) h =
+    ⊎_elim
+    (λ e. let q = eqb-true x 10 e in rw (e, q))
+    (λ e.
+    let h' : length (x ∷ before_feed s) < length (x ∷ s) = rw e at h in
+    rw e (ap (λ z. x ∷ z) (feed_split s (omega arith))))
     (cases_Bool (eqb x 10))
 
 -- inside a line
@@ -138,12 +149,5 @@ one_more a s h =
     let x = feeds_line s h in
     omega arith
 
-module _ (s : List ℕ) (i : ℕ) where
-  pub feeds_more : i < length s → get_or s i 0 ≡ 10 → feeds (drop i s) ≡ 1 + feeds (drop (i + 1) s)
-  feeds_more h e = at_drop_more feeds s i 0 h ∙ cond-true _ _ _ (eq-eqb _ _ e)
-
-  pub feeds_past : i < length s → (get_or s i 0 ≡ 10 → ⊥) → feeds (drop i s) ≡ feeds (drop (i + 1) s)
-  feeds_past h e = at_drop_more feeds s i 0 h ∙ cond-false _ _ _ (ne_eqb _ _ e)
-
-  pub feeds_end : length s ≤ i → feeds (drop i s) ≡ 0
-  feeds_end h = at_drop_all feeds s i h
+pub feeds_counted : (s : List ℕ) → feeds s ≡ count_by (λ b. eqb b 10) s
+feeds_counted s = is_count_by feeds (λ b. eqb b 10) refl (λ _ _. refl) s

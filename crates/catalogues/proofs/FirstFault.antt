@@ -1,19 +1,19 @@
 -- The first fault of a catalogue text.
-use Rattle.std.proofs.Common.{◌≡◌, ℕ, ◌+◌, ◌<◌, ◌≤◌, true, false, ltb, List, [], ◌∷◌, ◌++◌, length, take, drop, sym, refl, ap, ◌∙◌, subst, ⊎_elim, append_assoc, append-nil, arith}
-use Rattle.std.proofs.lemmas.Bool.{and_parts, and_from, cases_Bool, cases_lt, both_ways, ltb-true, lt-ltb}
-use Rattle.std.proofs.lemmas.List.{length-drop, take_all, nil_from_length}
+use Rattle.std.proofs.Common.{◌≡◌, ℕ, ◌+◌, ◌<◌, ◌≤◌, Bool, true, false, ltb, suc, List, [], ◌∷◌, ◌++◌, length, take, drop, sym, refl, ap, ◌∙◌, subst, ⊎_elim, append_assoc, append-nil, arith, length-append}
+use Rattle.std.proofs.lemmas.Bool.{and_parts, and_from, cases_Bool, cases_lt, both_ways, ltb-true, lt-ltb, false≢true}
+use Rattle.std.proofs.lemmas.List.{length-drop}
 use Rattle.std.proofs.lemmas.Bool.Decides.{nat_tests}
 use Rattle.rules.specs.Bytes.{same}
 use Rattle.rules.specs.Faults.{rank, not_after, FirstOf}
-use Rattle.rules.specs.Catalogues.{Fact, fact_ok, fact_text, header, ended_lines, unended, start_after, SamePair, CatalogueFinds, too_long, too_many, no_header, bad_header, no_fact, repeats, not_ended}
+use Rattle.rules.specs.Catalogues.{Fact, fact_ok, fact_text, header, ended_lines, start_after, SamePair, CatalogueFinds, too_long, too_many, no_header, bad_header, no_fact, repeats, not_ended}
 use Rattle.rules.specs.declared.grounds.Fault.{Fault}
 use Rattle.rules.specs.declared.grounds.Fault.TheVariants.{BadCatalogue, BadCatalogueLine}
 use Rattle.theory.proofs.Bytes.{same_is}
 use Rattle.theory.proofs.Bytes.{same_refl}
 use Rattle.theory.proofs.Lists.{nil_cons}
-use Rattle.catalogues.specs.Lines.{before_feed, line_at, key_of, key_at, asked, named_from, fact_line, header_there, Begins, Within, InOrder}
+use Rattle.catalogues.specs.Lines.{before_feed, line_at, key_of, key_at, asked, is_named, fact_line, header_there, Begins, Within, InOrder}
 use Rattle.catalogues.proofs.FactLines.{asked_is, fact_tested, fact_key, fact_told}
-use Rattle.catalogues.proofs.Feeds.{ended_step, ended_none, size_of, start-++, feed_within}
+use Rattle.catalogues.proofs.Feeds.{ended_step, ended_none, size_of, start-++, feed_split, feed_within}
 use Rattle.catalogues.proofs.Places.{lines_split, start_is, line_there, begins_next, within_next, line_before, placed}
 
 -- ground 16 counts before all others
@@ -52,6 +52,14 @@ header_is t h =
 pub header_length : (t : List ℕ) → header_there t ≡ true → length (line_at t 0) ≡ 24
 header_length t h = ap length (header_is t h).0
 
+-- a text begins with the header and a line feed exactly when the test holds
+pub header_started : (t : List ℕ) (r : Bool) → (r ≡ true → t ≡ (header ++ 10 ∷ []) ++ drop 25 t) × ((rest : List ℕ) → t ≡ (header ++ 10 ∷ []) ++ rest → r ≡ true) → r ≡ header_there t
+header_started t true (f, g) = subst (λ x. true ≡ header_there x) (sym (f refl)) (sym (headed (drop 25 t)))
+  where
+    headed : (rest : List ℕ) → header_there ((header ++ 10 ∷ []) ++ rest) ≡ true
+    headed rest = and_from _ _ (lt-ltb _ _ (omega (arith, length-append (header ++ 10 ∷ []) rest))) refl
+header_started t false (f, g) = ⊎_elim (λ h. let (e, k) = header_is t h in absurd (false≢true (g _ (feed_split t (omega (arith, ap length e)) ∙ ap (λ l. l ++ 10 ∷ drop (suc (length (before_feed t))) t) e)))) (λ h. sym h) (cases_Bool (header_there t))
+
 header_line : (t l : List ℕ) (ls : List (List ℕ)) → header_there t ≡ true → ended_lines t ≡ l ∷ ls → l ≡ header
 header_line t l ls h e = let x = placed [] t l ls e in sym x.line ∙ (header_is t h).0
 
@@ -60,7 +68,7 @@ past_first t l [] after h e z = absurd (omega arith)
 past_first t l (k ∷ before) after h e z = let n : length k ≡ 24 = ap length (header_line t k (before ++ l ∷ after) h e) in omega arith
 
 header_none : (f : Fact) → fact_ok f ≡ true → header ≡ fact_text f → ⊥
-unfolding named_from
+unfolding is_named
 header_none f h e = both_ways (fact_line header) refl (ap fact_line e ∙ fact_tested f h)
 
 -- after the header
@@ -148,8 +156,8 @@ module _ (t : List ℕ) (at : ℕ) (o : InOrder t at) where
       let z = size_of [] t in
       (start_after (ended_lines t), refl, omega arith, omega arith)
 
-  first_at : (told : ℕ) → told ≡ at → CatalogueFinds t (BadCatalogueLine at) → FirstOf (CatalogueFinds t) (BadCatalogueLine told)
-  first_at told q x = subst (λ p. FirstOf (CatalogueFinds t) (BadCatalogueLine p)) (sym q) (x, λ g y. go g (found_later g y))
+  first_at : CatalogueFinds t (BadCatalogueLine at) → FirstOf (CatalogueFinds t) (BadCatalogueLine at)
+  first_at x = (x, λ g y. go g (found_later g y))
     where
       go : (g : Fault) → Later t at g → not_after (rank (BadCatalogueLine at)) (rank g) ≡ true
       go g (p, e, h, _) = subst (λ y. not_after (rank (BadCatalogueLine at)) (rank y) ≡ true) (sym e) (ordered p h)
@@ -157,23 +165,23 @@ module _ (t : List ℕ) (at : ℕ) (o : InOrder t at) where
           ordered : (p : ℕ) → at ≤ p → not_after (rank (BadCatalogueLine at)) (rank (BadCatalogueLine p)) ≡ true
           ordered p h = grind (arith, nat_tests)
 
-  pub first_unended : (told : ℕ) → told ≡ at → at < length t → length t ≤ at + length (line_at t at) → FirstOf (CatalogueFinds t) (BadCatalogueLine told)
-  first_unended told q h k =
+  pub first_unended : at < length t → length t ≤ at + length (line_at t at) → FirstOf (CatalogueFinds t) (BadCatalogueLine at)
+  first_unended h k =
       let d = length-drop at t in
       let w = feed_within (drop at t) in
       let n : length (drop at t) ≤ length (before_feed (drop at t)) = omega arith in
       let e : ended_lines t ≡ ended_lines (take at t) = lines_split t at o.begins ∙ ap (λ z. ended_lines (take at t) ++ z) (ended_none [] (drop at t) n) ∙ append-nil (ended_lines (take at t)) in
       let s : start_after (ended_lines t) ≡ at = ap start_after e ∙ start_is t at o.begins o.inside in
       let z = size_of [] t in
-      first_at told q (subst (λ p. CatalogueFinds t (BadCatalogueLine p)) s (not_ended (omega arith)))
+      first_at (subst (λ p. CatalogueFinds t (BadCatalogueLine p)) s (not_ended (omega arith)))
 
   module _ (h : at + length (line_at t at) < length t) where
-    pub first_no_fact : (told : ℕ) → told ≡ at → fact_line (line_at t at) ≡ false → FirstOf (CatalogueFinds t) (BadCatalogueLine told)
-    first_no_fact told q n = first_at told q (no_fact_at t at o.begins o.past_header h n)
+    pub first_no_fact : fact_line (line_at t at) ≡ false → FirstOf (CatalogueFinds t) (BadCatalogueLine at)
+    first_no_fact n = first_at (no_fact_at t at o.begins o.past_header h n)
 
     module _ (f : fact_line (line_at t at) ≡ true) where
-      pub first_repeated : (told : ℕ) → told ≡ at → (p : ℕ) → Within t at p → key_at t p ≡ key_at t at → FirstOf (CatalogueFinds t) (BadCatalogueLine told)
-      first_repeated told q p w e = first_at told q (repeats_at t p at w.0 o.begins w.2 h (o.facts p w) f e)
+      pub first_repeated : (p : ℕ) → Within t at p → key_at t p ≡ key_at t at → FirstOf (CatalogueFinds t) (BadCatalogueLine at)
+      first_repeated p w e = first_at (repeats_at t p at w.0 o.begins w.2 h (o.facts p w) f e)
 
       pub onward : ((p : ℕ) → Within t at p → key_at t p ≡ key_at t at → ⊥) → InOrder t (at + length (line_at t at) + 1)
       onward n =
@@ -192,25 +200,9 @@ module _ (t : List ℕ) (at : ℕ) (o : InOrder t at) where
                 (within_next t at o.begins q w);
           }
 
-pub no_faults : (t : List ℕ) → InOrder t (length t) → (g : Fault) → CatalogueFinds t g → ⊥
-no_faults t o g x = let (p, e, h, k) = found_later t (length t) o g x in omega arith
-
--- a text without faults is in order to its end
-pub in_order : (t : List ℕ) → ((g : Fault) → CatalogueFinds t g → ⊥) → InOrder t (length t)
-in_order t n =
-    let b : unended (take (length t) t) ≡ [] = ap unended (take_all (length t) t (omega arith)) ∙ ⊎_elim (λ x. absurd (n _ (not_ended x))) (λ x. nil_from_length _ (omega arith)) (cases_lt 0 (length (unended t))) in
-    let h : header_there t ≡ true = ⊎_elim (λ x. x) (λ x. absurd (n _ (first_header t x).0)) (cases_Bool (header_there t)) in
-    let z = (header_is t h).1 in
-    record {
-      short = ⊎_elim (λ x. absurd (n _ (too_long x))) (λ x. x) (cases_lt 65536 (length t));
-      few = ⊎_elim (λ x. absurd (n _ (too_many x))) (λ x. x) (cases_lt 4096 (length (ended_lines t)));
-      headed = h;
-      past_header = omega arith;
-      inside = omega arith;
-      begins = b;
-      facts = λ p w. fact_at b p w;
-      apart = λ p q v w k e. n _ (repeats_at t p q v.0 w.0 k (line_before t q (length t) w.0 b w.2 (omega arith)).0 (fact_at b p v) (fact_at b q w) e);
-    }
-  where
-    fact_at : Begins t (length t) → (p : ℕ) → Within t (length t) p → fact_line (line_at t p) ≡ true
-    fact_at b p w = ⊎_elim (λ x. x) (λ x. absurd (n _ (no_fact_at t p w.0 w.1 (line_before t p (length t) w.0 b w.2 (omega arith)).0 x))) (cases_Bool (fact_line (line_at t p)))
+-- a text that is in order to its end has no fault, and so is a copy of it
+pub no_faults : (t s : List ℕ) (at : ℕ) → InOrder s at → s ≡ t → at ≡ length t → (g : Fault) → CatalogueFinds t g → ⊥
+no_faults t s at o e n g x =
+    let o' : InOrder t (length t) = subst (InOrder t) n (subst (λ s. InOrder s at) e o) in
+    let (p, e, h, k) = found_later t (length t) o' g x in
+    omega arith

@@ -1,31 +1,14 @@
 -- An index of lines grows by one line, and answers questions.
-use Rattle.std.proofs.Common.{◌≡◌, ℕ, suc, ◌+◌, ◌-◌, ◌<◌, ◌≤◌, true, ◌&&◌, eqb, ltb, leb, ◌⊎◌, List, length, get_or, take, drop, Err, sym, refl, ap, ◌∙◌, subst, inl, inr, ⊎_elim, arith, length-append}
-use Rattle.std.proofs.lemmas.Bool.{cases_lt, cases_order, and_parts, and_from, eqb-true, eq-eqb, leb-true, le-leb, ltb-true, lt-ltb}
-use Rattle.std.proofs.lemmas.List.{nil_from_length, take_all}
-use Rattle.rules.specs.Catalogues.{ended_lines, unended}
+use Rattle.std.proofs.Common.{◌≡◌, ℕ, suc, ◌+◌, ◌-◌, ◌<◌, ◌≤◌, true, ◌⊎◌, List, length, get_or, set, take, drop, Err, sym, refl, ap, ◌∙◌, subst, inl, inr, ⊎_elim, arith, length-append}
+use Rattle.std.proofs.lemmas.Bool.{cases_lt, cases_order}
+use Rattle.std.specs.List.{CopiedTo, SameBelow}
+use Rattle.std.proofs.lemmas.List.{get_or-set_same, get_or-set_other}
+use Rattle.rules.specs.Catalogues.{ended_lines}
 use Rattle.catalogues.specs.Lines.{line_at, key_at, Within, InOrder}
-use Rattle.catalogues.specs.Ordered.{below, key_in, Ascends, Lists, Stand, Covers, Indexed, Sought, Inserted}
-use Rattle.catalogues.proofs.FactLines.{two_bytes}
+use Rattle.catalogues.specs.Ordered.{below, key_in, Ascends, Lists, Covers, Indexed, Sought, Inserted}
 use Rattle.catalogues.proofs.FirstFault.{header_length}
 use Rattle.catalogues.proofs.Orders.{below_itself}
 use Rattle.catalogues.proofs.Places.{line_there, within_next, count_next}
-
--- the test for a line before a place tells that it is one
-pub stand_lists : (t : List ℕ) (at : ℕ) (index : List ℕ) (n : ℕ) → Stand t at index n → Lists t at index n
-stand_lists t at index n s i h =
-    let p : ℕ = get_or index i 0 in
-    let (a, r) = and_parts (eqb (length (unended (take p t))) 0) (leb 25 p && ltb p at) (s i h) in
-    let (b, c) = and_parts (leb 25 p) (ltb p at) r in
-    (nil_from_length (unended (take p t)) (eqb-true _ _ a), leb-true 25 p b, ltb-true p at c)
-
-pub lists_stand : (t : List ℕ) (at : ℕ) (index : List ℕ) (n : ℕ) → Lists t at index n → Stand t at index n
-lists_stand t at index n l i h =
-    let w = l i h in
-    and_from _ _ (eq-eqb _ _ (ap length w.0)) (and_from _ _ (le-leb _ _ w.1) (lt-ltb _ _ w.2))
-
--- what the search in an index asks of its lines
-pub readable : (t : List ℕ) (at : ℕ) (index : List ℕ) (n : ℕ) → InOrder t at → Lists t at index n → (i : ℕ) → i < n → (get_or index i 0 ≤ length t) × (2 ≤ length (line_at t (get_or index i 0)))
-readable t at index n o l i h = let w = l i h in let k = o.inside in (omega (arith, w.2), two_bytes _ (o.facts _ w))
 
 -- a key that is not found is the key of no line
 pub absent : (t : List ℕ) (at : ℕ) (index k : List ℕ) (n i : ℕ) → Covers t at index n → Sought t index n k (Err i) → (p : ℕ) → Within t at p → key_at t p ≡ k → ⊥
@@ -33,14 +16,6 @@ absent t at index k n i c s p w e =
     c p w (λ j h q.
     let f : key_in t index j ≡ k = ap (key_at t) q ∙ e in
     ⊎_elim (λ x. below_itself k (sym (ap (λ y. below y k) f) ∙ s.1 j x)) (λ x. below_itself k (sym (ap (below k) f) ∙ s.2 j x h)) (cases_lt j i))
-
--- an index has no more lines than its text may have
-pub few_lines : (t index : List ℕ) (n : ℕ) → InOrder t (length t) → Indexed t (length t) index n → n ≤ 4096
-few_lines t index n o x =
-    let e : length (ended_lines (take (length t) t)) ≡ length (ended_lines t) = ap (λ y. length (ended_lines y)) (take_all (length t) t (omega arith)) in
-    let f = o.few in
-    let g = x.counted in
-    omega arith
 
 -- an index of no line
 pub empty_index : (t index : List ℕ) → InOrder t 25 → Indexed t 25 index 0
@@ -130,3 +105,11 @@ module _ (t : List ℕ) (at : ℕ) (o : InOrder t at) (h : at + length (line_at 
         let c = count_next t at o.begins h in
         let d = x.counted in
         record { counted = omega arith; lists = grown_lists; covers = grown_covers; ascends = grown_ascends }
+
+-- a value that is put before the last of the first n places moves these up by one
+pub inserted : (was moved : List ℕ) (n i v : ℕ) → i ≤ n → n < length was → length moved ≡ length was → CopiedTo was moved i (i + 1) (n - i) → SameBelow was moved (i + 1) → Inserted n i v was (set moved i v)
+inserted was moved n i v h k l copied same = record {
+  before = λ j u. get_or-set_other moved i j v 0 (λ e. omega arith) ∙ same j 0 (omega arith);
+  here = get_or-set_same moved i v 0 (omega arith);
+  after = λ j u w. get_or-set_other moved i (j + 1) v 0 (λ e. omega arith) ∙ copied (j + 1) 0 (omega arith) (omega arith) ∙ (let e : i + (j + 1 - (i + 1)) ≡ j = omega arith in ap (λ m. get_or was m 0) e);
+}

@@ -1,4 +1,3 @@
-mod Passing
 mod Scans
 mod Orders
 pub mod FactLines
@@ -7,3 +6,4 @@ pub mod Places
 pub mod FirstFault
 pub mod Answering
 pub mod Indexing
+pub mod Taking

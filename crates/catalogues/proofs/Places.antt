@@ -63,6 +63,10 @@ module _ (t : List ℕ) (p : ℕ) where
         (λ x. inr (⊎_elim (λ y. absurd (none_inside q y (omega arith) c)) (λ y. omega arith) (cases_lt p q)))
         (cases_lt q p)
 
+-- a line ends within its text
+pub line_inside : (t : List ℕ) (p : ℕ) → p ≤ length t → p + length (line_at t p) ≤ length t
+line_inside t p h = omega (arith, feed_within (drop p t), length-drop p t)
+
 -- a line that begins before a place where another begins
 pub line_before : (t : List ℕ) (p at : ℕ) → Begins t p → Begins t at → p < at → at ≤ length t → (p + length (line_at t p) < at) × Among (line_at t p) (ended_lines (take at t))
 line_before t p at b c h k =

@@ -1,113 +1,121 @@
--- Scans of what is left of a text, and of the list of catalogues.
-use Rattle.std.proofs.Common.{◌≡◌, ℕ, suc, ◌+◌, ◌-◌, ◌<◌, ◌≤◌, true, false, cond, ◌&&◌, eqb, List, [], ◌∷◌, ◌++◌, length, get_or, take, drop, set, is_some, sym, refl, ap, ◌∙◌, ⊎_elim, arith}
-use borrow.Rule.Slice.PartMut.{put_mid}
-use Rattle.std.proofs.lemmas.Slice.{take-put_mid}
-use Rattle.std.proofs.lemmas.List.{at_drop_more, at_drop_all, take_rest, take-take, take_at, take_more_set, length-set, get_or-take, get_or-drop, append_assoc}
-use Rattle.std.proofs.lemmas.Bool.{cases_Bool, lt-ltb, and_left, and_right, eq-eqb, ne_eqb, cond-true, cond-false}
+-- Scans of a text, and of the list of catalogues.
+use Rattle.std.proofs.Common.{◌≡◌, ℕ, suc, ◌+◌, ◌-◌, ◌≤◌, Bool, true, false, ◌&&◌, ◌||◌, eqb, List, [], ◌∷◌, ◌++◌, length, take, drop, is_some, Option, None, Some, MatchOption, Bor, sym, refl, ap, ◌∙◌, subst, ⊎_elim, arith}
+use Rattle.std.specs.Bool.{then_some}
+use Rattle.std.specs.Option.{unwrap_or}
+use Rattle.std.specs.List.{prefix_len, list_any}
+use Rattle.std.specs.Slice.{IsGetRangeResult}
+use Rattle.std.specs.Cmp.Lexicographic.{pointwise}
+use Rattle.std.specs.Prelude.{nat_eq}
+use Rattle.std.proofs.lemmas.Bool.{cases_Bool, cases_lt, eqb-true, and_parts, and_right, false≢true}
+use Rattle.std.proofs.lemmas.Cmp.{nat_eq_equiv}
+use Rattle.std.proofs.lemmas.List.{drop_all}
 use Rattle.rules.specs.Bytes.{same}
-use Rattle.rules.specs.Kinds.{code_ok}
-use Rattle.rules.specs.Catalogues.{catalogue_name, catalogues, named_among, before_bar, after_bar, header}
+use Rattle.rules.specs.Catalogues.{one_of, when, catalogue_name, named_among, before_bar, after_bar}
 use Rattle.rules.specs.declared.schema.Catalogue.{Catalogue}
-use Rattle.catalogues.specs.Lines.{until, named_from, pair_ok, line_at, key_at, last_of, header_there}
+use Rattle.byte_classes.specs.Runs.{other}
+use Rattle.rules.specs.Kinds.{code_ok}
+use Rattle.theory.proofs.Lists.{nil_cons, cons_tail}
+use Rattle.catalogues.specs.Lines.{until, line_at, is_named, pair_ok}
 
-module _ (q : ℕ) (s : List ℕ) (i : ℕ) where
-  pub until_more : i < length s → (get_or s i 0 ≡ q → ⊥) → i + length (until q (drop i s)) ≡ (i + 1) + length (until q (drop (i + 1) s))
-  until_more h e = omega (arith, ap length (at_drop_more (until q) s i 0 h ∙ cond-false _ _ _ (ne_eqb _ _ e)))
+one_more : (n : ℕ) → 1 + n ≡ suc n
+one_more n = omega arith
 
-  pub until_stop : i < length s → get_or s i 0 ≡ q → length (until q (drop i s)) ≡ 0
-  until_stop h e = ap length (at_drop_more (until q) s i 0 h ∙ cond-true _ _ _ (eq-eqb _ _ e))
-
-  pub until_end : length s ≤ i → length (until q (drop i s)) ≡ 0
-  until_end h = ap length (at_drop_all (until q) s i h)
-
-pub until_front : (q : ℕ) (s : List ℕ) → take (length (until q s)) s ≡ until q s
-until_front q [] = refl
-until_front q (x ∷ s) =
+-- what stands before the first of a byte is a run of other bytes
+pub until_is : (q : ℕ) (s : List ℕ) → take (prefix_len (other q) s) s ≡ until q s
+until_is q [] = refl
+until_is q (x ∷ s) =
     ⊎_elim
     (λ e. rw e)
-    (λ e. rw e (ap (λ z. x ∷ z) (until_front q s)))
+    (λ e. let n = one_more (prefix_len (other q) s) in rw e (rw n (ap (λ z. x ∷ z) (until_is q s))))
     (cases_Bool (eqb x q))
 
+-- the line that is read from a place
+pub line_read : (t : List ℕ) (at e : ℕ) (r : Option (Bor (List ℕ))) (d : Bor (List ℕ)) → e ≡ at + prefix_len (other 10) (drop at t) → (at ≤ length t → e ≤ length t) → IsGetRangeResult t at e r → d.now ≡ [] → (unwrap_or r d).now ≡ line_at t at
+line_read t at e (Some x) d q w g z =
+    let n : e - at ≡ prefix_len (other 10) (drop at t) = omega arith in
+    g.0.2 ∙ ap (λ k. take k (drop at t)) n ∙ until_is 10 (drop at t)
+line_read t at e None d q w g z =
+    ⊎_elim
+    (λ h. z ∙ ap (until 10) (sym (drop_all at t (omega arith))))
+    (λ h. absurd (false≢true (g.1 (omega arith, w h))))
+    (cases_lt (length t) at)
+
 -- the parts of a text at its first bar
-pub bar_until : (s : List ℕ) → before_bar s ≡ until 124 s
-bar_until [] = refl
-bar_until (x ∷ s) = ap (λ z. cond (eqb x 124) [] (x ∷ z)) (bar_until s)
-
-pub after_there : (s : List ℕ) → length (until 124 s) < length s → after_bar s ≡ drop (suc (length (until 124 s))) s
-after_there [] h = absurd (omega arith)
-after_there (x ∷ s) h =
+bar_found : (s code : List ℕ) → drop (prefix_len (other 124) s) s ≡ 124 ∷ code → (before_bar s ≡ take (prefix_len (other 124) s) s) × (after_bar s ≡ code) × (s ≡ take (prefix_len (other 124) s) s ++ 124 ∷ code)
+bar_found [] code e = absurd (nil_cons _ _ e)
+bar_found (x ∷ s) code e =
     ⊎_elim
-    (λ e. rw e)
-    (λ e. let h' : length (x ∷ until 124 s) < length (x ∷ s) = rw e at h in rw e (after_there s (omega arith)))
+    (λ f. let u : x ∷ s ≡ 124 ∷ code = rw f at e in rw f (refl, cons_tail u, u))
+    (λ f.
+    let n = one_more (prefix_len (other 124) s) in
+    let u : drop (prefix_len (other 124) s) s ≡ 124 ∷ code = rw n at (rw f at e) in
+    let (a, b, c) = bar_found s code u in
+    rw f (rw n (ap (λ z. x ∷ z) a, b, ap (λ z. x ∷ z) c)))
     (cases_Bool (eqb x 124))
 
-pub after_none : (s : List ℕ) → length s ≤ length (until 124 s) → after_bar s ≡ []
-after_none [] h = refl
-after_none (x ∷ s) h =
+bar_missing : (s : List ℕ) → ((code : List ℕ) → drop (prefix_len (other 124) s) s ≡ 124 ∷ code → ⊥) → after_bar s ≡ []
+bar_missing [] h = refl
+bar_missing (x ∷ s) h =
     ⊎_elim
-    (λ e. let h' : length (x ∷ s) ≤ 0 = rw e at h in absurd (omega arith))
-    (λ e. let h' : length (x ∷ s) ≤ length (x ∷ until 124 s) = rw e at h in rw e (after_none s (omega arith)))
+    (λ f. let q = eqb-true x 124 f in absurd (h s (rw f (ap (λ y. y ∷ s) q))))
+    (λ f. let n = one_more (prefix_len (other 124) s) in rw f (bar_missing s (λ code e. h code (rw f (rw n e)))))
     (cases_Bool (eqb x 124))
-
--- the catalogues one by one
-module _ (n : List ℕ) (i : ℕ) (d : Catalogue) (h : i < 14) where
-  pub named_more : same (catalogue_name (get_or catalogues i d)) n ≡ false → named_from i n ≡ named_from (i + 1) n
-  unfolding named_from
-  named_more e = ap is_some (at_drop_more (λ cs. named_among cs n) catalogues i d h ∙ cond-false _ _ _ e)
-
-  pub named_here : same (catalogue_name (get_or catalogues i d)) n ≡ true → named_from i n ≡ true
-  unfolding named_from
-  named_here e = ap is_some (at_drop_more (λ cs. named_among cs n) catalogues i d h ∙ cond-true _ _ _ e)
-
-pub named_end : (n : List ℕ) (i : ℕ) → 14 ≤ i → named_from i n ≡ false
-unfolding named_from
-named_end n i h = ap is_some (at_drop_all (λ cs. named_among cs n) catalogues i h)
 
 -- a key is read at its first bar
-module _ (s : List ℕ) (bar : ℕ) (e : bar ≡ 0 + length (until 124 s)) where
-  pub pair_none : length s ≤ bar → pair_ok s ≡ false
-  pair_none h = and_right (named_from 0 (before_bar s)) _ (ap code_ok (after_none s (omega arith)))
+module _ (s back : List ℕ) (bar : ℕ) (e : bar ≡ 0 + prefix_len (other 124) s) (b : back ≡ drop bar s) where
+  here : bar ≡ prefix_len (other 124) s
+  here = omega arith
 
-  pair_parts : bar < length s → pair_ok s ≡ (named_from 0 (take (bar - 0) s) && code_ok (take (length s - (bar + 1)) (drop (bar + 1) s)))
-  pair_parts h =
-      let n : bar - 0 ≡ length (until 124 s) = omega arith in
-      let m : suc (length (until 124 s)) ≡ bar + 1 = omega arith in
-      let u : before_bar s ≡ take (bar - 0) s = bar_until s ∙ sym (until_front 124 s) ∙ ap (λ k. take k s) (sym n) in
-      let v : after_bar s ≡ take (length s - (bar + 1)) (drop (bar + 1) s) = after_there s (omega arith) ∙ ap (λ k. drop k s) m ∙ sym (take_rest s (bar + 1)) in
-      λ i. named_from 0 (u i) && code_ok (v i)
+  pub pair_missing : pointwise nat_eq (take 1 back) (124 ∷ []) ≡ false → pair_ok s ≡ false
+  pair_missing h =
+      let none : (code : List ℕ) → drop (prefix_len (other 124) s) s ≡ 124 ∷ code → ⊥ = λ code f. false≢true (sym h ∙ ap (λ l. pointwise nat_eq (take 1 l) (124 ∷ [])) (b ∙ ap (λ n. drop n s) here ∙ f)) in
+      and_right (is_named (before_bar s)) _ (ap code_ok (bar_missing s none))
 
-  pub pair_named : bar < length s → named_from 0 (take (bar - 0) s) ≡ true → pair_ok s ≡ code_ok (take (length s - (bar + 1)) (drop (bar + 1) s))
-  pair_named h n = pair_parts h ∙ ap (λ b. b && code_ok (take (length s - (bar + 1)) (drop (bar + 1) s))) n
+  pub pair_parts : (name code : List ℕ) → name ≡ take bar s → code ≡ drop 1 back → pointwise nat_eq (take 1 back) (124 ∷ []) ≡ true → (pair_ok s ≡ (is_named name && code_ok code)) × (s ≡ name ++ 124 ∷ code)
+  pair_parts name code n k h =
+      let (u, v, w) = bar_found s code (ap (λ m. drop m s) (sym here) ∙ sym b ∙ begins back code k h) in
+      let f : take (prefix_len (other 124) s) s ≡ name = ap (λ m. take m s) (sym here) ∙ sym n in
+      ((λ i. is_named ((u ∙ f) i) && code_ok (v i)), w ∙ ap (λ z. z ++ 124 ∷ code) f)
+    where
+      begins : (back code : List ℕ) → code ≡ drop 1 back → pointwise nat_eq (take 1 back) (124 ∷ []) ≡ true → back ≡ 124 ∷ code
+      begins [] code k h = absurd (false≢true h)
+      begins (y ∷ back) code k h = let q = eqb-true y 124 (and_parts (eqb y 124) true h).0 in (λ i. q i ∷ sym k i)
 
-  pub pair_unnamed : bar < length s → named_from 0 (take (bar - 0) s) ≡ false → pair_ok s ≡ false
-  pair_unnamed h n = pair_parts h ∙ and_left _ _ n
+-- what is told where a test holds
+pub told_where : {A : Type 0} (Q : A → Type 0) (p b : Bool) (x : A) (o : Option A) → b ≡ p → o ≡ then_some b x → Q x → MatchOption o (p ≡ false) (λ y. (p ≡ true) × Q y)
+told_where Q p true x o e f q = subst (λ o. MatchOption o (p ≡ false) (λ y. (p ≡ true) × Q y)) (sym f) (sym e, q)
+told_where Q p false x o e f q = subst (λ o. MatchOption o (p ≡ false) (λ y. (p ≡ true) × Q y)) (sym f) (sym e)
 
--- lines read from one place to another
-module _ (t : List ℕ) (p e : ℕ) (is : e ≡ p + length (line_at t p)) where
-  pub line_read : take (e - p) (drop p t) ≡ line_at t p
-  line_read = let n : e - p ≡ length (line_at t p) = omega arith in ap (λ k. take k (drop p t)) n ∙ until_front 10 (drop p t)
+-- two texts are tested for the same bytes by either word
+pub same_pointwise : (a b : List ℕ) → same a b ≡ pointwise nat_eq a b
+same_pointwise [] [] = refl
+same_pointwise [] (y ∷ b) = refl
+same_pointwise (x ∷ a) [] = refl
+same_pointwise (x ∷ a) (y ∷ b) = rw (same_pointwise a b)
 
-  pub key_read : take (e - 2 - p) (drop p t) ≡ key_at t p
-  key_read =
-      let n : e - 2 - p ≡ length (line_at t p) - 2 = omega arith in
-      ap (λ k. take k (drop p t)) n
-      ∙ sym (take-take (length (line_at t p) - 2) (length (line_at t p)) (drop p t) (omega arith))
-      ∙ ap (take (length (line_at t p) - 2)) (until_front 10 (drop p t))
+-- the catalogues one by one
+pub named_any : (n : List ℕ) (cs : List Catalogue) → list_any (λ c. pointwise nat_eq (catalogue_name c) n) cs ≡ is_some (named_among cs n)
+named_any n [] = refl
+named_any n (c ∷ cs) = rw (← same_pointwise (catalogue_name c) n) (⊎_elim (λ e. rw e) (λ e. rw e (named_any n cs)) (cases_Bool (same (catalogue_name c) n)))
 
-  pub last_read : 1 ≤ length (line_at t p) → get_or t (e - 1) 0 ≡ last_of (line_at t p)
-  last_read h =
-      let n : ℕ = length (line_at t p) in
-      let m : p + (n - 1) ≡ e - 1 = omega arith in
-      ap (λ k. get_or t k 0) (sym m) ∙ sym (get_or-drop p t (n - 1) 0) ∙ sym (get_or-take n (drop p t) (n - 1) 0 (omega arith)) ∙ ap (λ l. get_or l (n - 1) 0) (until_front 10 (drop p t))
+-- texts of two lengths differ
+pub same_length : (a b : List ℕ) → (length a ≡ length b → ⊥) → same a b ≡ false
+same_length [] [] h = absurd (h refl)
+same_length [] (y ∷ b) h = refl
+same_length (x ∷ a) [] h = refl
+same_length (x ∷ a) (y ∷ b) h = and_right (eqb x y) _ (same_length a b (λ e. h (ap suc e)))
 
-pub header_read : (t : List ℕ) (e : ℕ) → e ≡ 0 + length (line_at t 0) → e < length t → header_there t ≡ same (take (e - 0) t) header
-header_read t e is h =
-    ap (λ b. b && same (line_at t 0) header) (lt-ltb _ _ (omega arith)) ∙ ap (λ l. same l header) (sym (line_read t 0 e is))
+-- texts are tested for the same bytes in either order
+same_turned : (a b : List ℕ) → pointwise nat_eq a b ≡ same b a
+same_turned [] [] = refl
+same_turned [] (y ∷ b) = refl
+same_turned (x ∷ a) [] = refl
+same_turned (x ∷ a) (y ∷ b) = λ i. nat_eq_equiv.symm x y i && same_turned a b i
 
--- a text, '|' and another text, written one after the other into a room
-pub key_written : (a b r : List ℕ) (n k m : ℕ) → n ≡ length a → k ≡ length b → n < length (a ++ r) → take (n + 1 + k) (put_mid (n + 1) m (set (a ++ r) n 124) b) ≡ a ++ 124 ∷ b
-key_written a b r n k m e f h =
-    let l : length (set (a ++ r) n 124) ≡ length (a ++ r) = length-set (a ++ r) n 124 in
-    take-put_mid (n + 1) m (set (a ++ r) n 124) b (n + 1 + k) (omega arith) (omega arith)
-    ∙ ap (λ x. x ++ b) (take_more_set (a ++ r) n 124 h ∙ ap (λ x. x ++ 124 ∷ []) (take_at a r n (sym e)))
-    ∙ append_assoc a (124 ∷ []) b
+pub any_one_of : (s : List ℕ) (ts : List (List ℕ)) → list_any (λ t. pointwise nat_eq t s) ts ≡ one_of s ts
+any_one_of s [] = refl
+any_one_of s (t ∷ ts) = λ i. same_turned t s i || any_one_of s ts i
+
+pub then_some-when : (b : Bool) (n : ℕ) → then_some b n ≡ when b n
+then_some-when true n = refl
+then_some-when false n = refl

@@ -35,13 +35,13 @@ asked c s = catalogue_name c ++ 124 ∷ s
 abbrev pub last_of : List ℕ → ℕ
 last_of l = slice_index l (length l - 1)
 
--- a text is the name of a catalogue from a place on in the list of all
-unfoldable pub named_from : ℕ → List ℕ → Bool
-named_from i n = is_some (named_among (drop i catalogues) n)
+-- a text is the name of a catalogue
+unfoldable pub is_named : List ℕ → Bool
+is_named n = is_some (named_among catalogues n)
 
 -- a key is the name of a catalogue, '|' and a code
 abbrev pub pair_ok : List ℕ → Bool
-pair_ok k = named_from 0 (before_bar k) && code_ok (after_bar k)
+pair_ok k = is_named (before_bar k) && code_ok (after_bar k)
 
 -- a line tells a fact: a key, '|' and a digit 0 to 6
 abbrev pub fact_line : List ℕ → Bool

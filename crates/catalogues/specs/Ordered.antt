@@ -1,8 +1,7 @@
 -- An index of the lines of a catalogue text, ordered by their keys.
-use Rattle.std.specs.Prelude.{◌≡◌, ℕ, ◌+◌, ◌<◌, ◌≤◌, Bool, true, false, cond, ◌&&◌, List, [], ◌∷◌, length, take, Ok, Err, Result, ◌==◌, ◌≢◌, nat_le, nat_lt, slice_index, slice_index_or}
-use Rattle.rules.specs.Catalogues.{ended_lines, unended, CatalogueFirst}
-use Rattle.rules.specs.declared.grounds.Fault.{Fault}
-use Rattle.catalogues.specs.Lines.{key_at, Within, InOrder}
+use Rattle.std.specs.Prelude.{◌≡◌, ℕ, ◌+◌, ◌<◌, ◌≤◌, Bool, true, false, cond, List, [], ◌∷◌, length, take, Ok, Err, Result, ◌==◌, ◌≢◌, nat_lt, slice_index, slice_index_or}
+use Rattle.rules.specs.Catalogues.{ended_lines}
+use Rattle.catalogues.specs.Lines.{key_at, Within}
 
 -- a text comes before another, by the first byte in which they differ
 abbrev pub below : List ℕ → List ℕ → Bool
@@ -22,14 +21,6 @@ Ascends t index n = (i j : ℕ) → (i < j) × (j < n) → below (key_in t index
 -- the first n places of an index are lines before a place
 abbrev pub Lists : List ℕ → ℕ → List ℕ → ℕ → Type 0
 Lists t at index n = (i : ℕ) → i < n → Within t at (slice_index index i)
-
--- a test for a line before a place
-abbrev pub stands : List ℕ → ℕ → ℕ → Bool
-stands t at p = length (unended (take p t)) == 0 && (nat_le 25 p && nat_lt p at)
-
--- the first n places of an index pass that test
-abbrev pub Stand : List ℕ → ℕ → List ℕ → ℕ → Type 0
-Stand t at index n = (i : ℕ) → i < n → stands t at (slice_index index i) ≡ true
 
 -- no line before a place is missing in the first n places of an index
 abbrev pub Covers : List ℕ → ℕ → List ℕ → ℕ → Type 0
@@ -52,13 +43,3 @@ pub record Inserted (n i v : ℕ) (was is : List ℕ) : Type 0 where
   pub before : (k : ℕ) → k < i → slice_index is k ≡ slice_index was k
   pub here : slice_index_or is i 0 ≡ v
   pub after : (k : ℕ) → i ≤ k → k < n → slice_index is (k + 1) ≡ slice_index was k
-
--- what a step over the line at a place comes to: the place of the next line, up to which the text is in order and in the index, or the first fault
-abbrev pub Steps : List ℕ → ℕ → List ℕ → ℕ → Result ℕ Fault → Type 0
-Steps t at index n (Ok next) = (at < next) × InOrder t next × Indexed t next index (n + 1)
-Steps t at index n (Err f) = CatalogueFirst t f
-
--- what the making of an index comes to: the number of its lines, where the text has no fault, or the first fault
-abbrev pub Makes : List ℕ → List ℕ → Result ℕ Fault → Type 0
-Makes t index (Ok n) = InOrder t (length t) × Indexed t (length t) index n
-Makes t index (Err f) = CatalogueFirst t f

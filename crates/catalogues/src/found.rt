@@ -17,8 +17,5 @@ pub fn look_up<C: CatalogueSet>(set: &C, catalogue: Catalogue, code: &[u8]) -> R
     ensures found { result ≡ found_by (C.CatalogueSet.facts set.now catalogue code.now) }
     ensures small { Small result }
 {
-    match set.decimals(catalogue, code) {
-        Some(d) => Ok(d),
-        None => Err(Finding::Unknown),
-    }
+    set.decimals(catalogue, code).ok_or(Finding::Unknown)
 }

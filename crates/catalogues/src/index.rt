@@ -1,73 +1,97 @@
 // An index of the lines of a catalogue text, ordered by their keys.
-ghost use Rattle.std.specs.Prelude.{◌≡◌, ℕ, ◌+◌, ◌<◌, ◌≤◌, true, length, slice_index};
-ghost use Rattle.std.specs.Ordering.{MatchOrdering};
-ghost use Rattle.catalogues.specs.Lines.{line_at, key_at};
-ghost use Rattle.catalogues.specs.Ordered.{below, Ascends, Sought, Inserted};
+ghost use Rattle.std.specs.Prelude.{◌≡◌, ◌<◌, ◌≤◌, ◌∷◌, ◌++◌, length, IfOk, IfErr};
+ghost use Rattle.std.specs.Cmp.Lexicographic.{slice_cmp};
+ghost use Rattle.std.specs.Ordering.{nat_cmp};
+ghost use Rattle.rules.specs.Catalogues.{CatalogueFirst};
+ghost use Rattle.catalogues.specs.Lines.{InOrder};
+ghost use Rattle.catalogues.specs.Ordered.{Indexed, Sought};
 
-use crate::lines::skip_to;
+use crate::lines::{HEADER, fact, has_header, key_from, line_feeds, line_from};
+use rules::Fault;
 use std::cmp::Ordering;
 
-// Which of two texts comes first.
-fn compare(a: &[u8], b: &[u8]) -> Ordering
-    ensures { MatchOrdering result (below a.now b.now ≡ true) (a.now ≡ b.now) (below b.now a.now ≡ true) }
-{
-    for i in 0..a.len().min(b.len()) {
-        if a[i] < b[i] {
-            return Ordering::Less;
-        }
-        if a[i] > b[i] {
-            return Ordering::Greater;
-        }
-    }
-    if a.len() < b.len() {
-        return Ordering::Less;
-    }
-    if a.len() > b.len() {
-        return Ordering::Greater;
-    }
-    Ordering::Equal
+const MOST_BYTES: usize = 65_536;
+
+// The most line feeds of a catalogue text.
+const MOST_LINES: usize = 4_096;
+
+/// The lines of facts of a catalogue text up to a place, in the order of their keys.
+#[derive(Drop)]
+pub(crate) struct Index<'a> {
+    pub(crate) text: &'a [u8],
+    // Where the next line begins.
+    at: usize,
+    // Where the lines begin.
+    pub(crate) places: [u16; MOST_LINES],
+    count: usize,
+    ghost room: { count ≤ 4096 },
+    ghost order: { InOrder text.now at },
+    ghost indexed: { Indexed text.now at places count },
 }
 
-// Whether the key of the line at `at` comes before another key, is that key or comes after it.
-fn compare_at(text: &[u8], at: usize, key: &[u8]) -> Ordering
-    requires within { at ≤ length text.now }
-    requires two { 2 ≤ length (line_at text.now at) }
-    ensures { MatchOrdering result (below (key_at text.now at) key.now ≡ true) (key_at text.now at ≡ key.now) (below key.now (key_at text.now at) ≡ true) }
+// Which comes first, a key or that of a name and a code.
+fn compare(key: &[u8], name: &[u8], code: &[u8]) -> Ordering
+    ensures { result ≡ slice_cmp nat_cmp key.now (name.now ++ 124 ∷ code.now) }
 {
-    let end = skip_to(text, at, b'\n');
-    compare(&text[at..end - 2], key)
+    let (front, back) = key.split_at(name.len().min(key.len()));
+    let order = front.cmp(name);
+    match back {
+        [bar, rest @ ..] => order.then(bar.cmp(&b'|')).then(rest.cmp(code)),
+        [] => order.then(Ordering::Less),
+    }
 }
 
-/// Where a key stands among the first `count` lines of an index, or where it would stand.
-pub(crate) fn search(text: &[u8], index: &[u16], count: usize, key: &[u8]) -> Result<usize, usize>
-    requires inside { count ≤ length index.now }
-    requires lines { (i : ℕ) → i < count → (slice_index index.now i ≤ length text.now) × (2 ≤ length (line_at text.now (slice_index index.now i))) }
-    requires ordered { Ascends text.now index.now count }
-    ensures { Sought text.now index.now count key.now result }
-{
-    let mut low = 0;
-    let mut high = count;
-    while low < high {
-        let middle = low + (high - low) / 2;
-        match compare_at(text, index[middle] as usize, key) {
-            Ordering::Less => low = middle + 1,
-            Ordering::Greater => high = middle,
-            Ordering::Equal => return Ok(middle),
+impl<'a> Index<'a> {
+    /// The index of a whole text, or its first fault.
+    pub(crate) fn new(text: &'a [u8]) -> Result<Index<'a>, Fault>
+        ensures ok { IfOk result (λ i. (i.text.now ≡ text.now) × (i.at ≡ length text.now)) }
+        ensures err { IfErr result (CatalogueFirst text.now) }
+    {
+        if text.len() > MOST_BYTES || line_feeds(text) > MOST_LINES || !has_header(text) {
+            return Err(Fault::BadCatalogue);
         }
+        let mut index = Index {
+            text,
+            at: HEADER.len(),
+            places: [0; MOST_LINES],
+            count: 0,
+        };
+        while index.at < text.len() {
+            index.take_line()?;
+        }
+        Ok(index)
     }
-    Err(low)
-}
 
-/// Puts a value at a place among the first `count` of an index, before those that stand there.
-pub(crate) fn insert(index: &mut [u16], count: usize, place: usize, value: u16)
-    requires inside { count < length index.old }
-    requires among { place ≤ count }
-    ensures { Inserted count place value index.old index.new }
-{
-    let mut i = count;
-    while i > place {
-        index[i] = index[i - 1];
-        i -= 1;
+    /// Where the key of a name and a code stands, or where it would stand.
+    pub(crate) fn search(&self, name: &[u8], code: &[u8]) -> Result<usize, usize>
+        ensures { Sought self.now.text.now self.now.places self.now.count (name.now ++ 124 ∷ code.now) result }
+    {
+        let places = &self.places[..self.count];
+        places.binary_search_by(|place| compare(key_from(self.text, *place as usize), name, code))
     }
-    index[place] = value;
+
+    // Takes the next line in, where it has no fault.
+    fn take_line(&mut self) -> Result<(), Fault>
+        requires { self.old.at < length self.old.text.now }
+        ensures text { self.new.text.now ≡ self.old.text.now }
+        ensures ok { IfOk result (λ _. self.old.at < self.new.at) }
+        ensures err { IfErr result (CatalogueFirst self.old.text.now) }
+    {
+        let at = self.at;
+        let bad = Fault::BadCatalogueLine { place: at };
+        let line = line_from(self.text, at);
+        let end = at + line.len();
+        if end == self.text.len() {
+            return Err(bad);
+        }
+        let (name, code) = fact(line).ok_or(bad)?;
+        let Err(place) = self.search(name, code) else {
+            return Err(bad);
+        };
+        self.places.copy_within(place..self.count, place + 1);
+        self.places[place] = at as u16;
+        self.count += 1;
+        self.at = end + 1;
+        Ok(())
+    }
 }

@@ -1,9 +1,7 @@
 // Catalogue sets: the ruled set, the set of a catalogue text, and the check of such a text.
 #![tactic(auto)]
 
-mod asking;
 mod checking;
-mod codes;
 mod found;
 mod index;
 mod lines;

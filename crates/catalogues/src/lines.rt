@@ -1,13 +1,13 @@
 // The lines of a catalogue text.
-ghost use Rattle.std.specs.Prelude.{◌≡◌, ◌+◌, ◌<◌, ◌≤◌, length, drop, slice_index_or};
-ghost use Rattle.rules.specs.Catalogues.{catalogue_name, catalogues, ended_lines};
-ghost use Rattle.rules.specs.declared.schema.Catalogue.TheVariants.{FormaPago};
-ghost use Rattle.catalogues.specs.Lines.{until, named_from, pair_ok, fact_line, header_there};
+ghost use Rattle.std.specs.Prelude.{◌≡◌, ◌-◌, ◌∷◌, ◌++◌, true, false, length, MatchOption};
+ghost use Rattle.rules.specs.Catalogues.{catalogue_name, ended_lines};
+ghost use Rattle.catalogues.specs.Lines.{line_at, key_of, key_at, last_of, is_named, pair_ok, fact_line, header_there};
 
-use crate::codes::{is_code, is_same};
+use byte_classes::{Other, is_code, skip};
 use rules::Catalogue;
 
-const HEADER: &[u8; 24] = b"catalogo|clave|decimales";
+/// The first line of a catalogue text, with its line feed.
+pub(crate) const HEADER: &[u8; 25] = b"catalogo|clave|decimales\n";
 
 const CATALOGUES: [Catalogue; 14] = [
     Catalogue::FormaPago,
@@ -48,78 +48,66 @@ pub(crate) fn name_of(catalogue: Catalogue) -> &'static [u8]
     }
 }
 
-// The catalogue at a place of the list of all.
-fn catalogue_at(i: usize) -> Catalogue
-    requires { i < 14 }
-    ensures { result ≡ slice_index_or catalogues i FormaPago }
-{
-    CATALOGUES[i]
-}
-
 // Whether a text is the name of a catalogue.
 fn is_name(text: &[u8]) -> bool
-    ensures { result ≡ named_from 0 text.now }
+    ensures { result ≡ is_named text.now }
 {
-    for i in 0..CATALOGUES.len() {
-        if is_same(name_of(catalogue_at(i)), text) {
-            return true;
-        }
-    }
-    false
+    CATALOGUES.iter().any(|c| name_of(*c) == text)
 }
 
-/// Where a byte stands first, from `at` on, or the length of the text.
-pub(crate) fn skip_to(text: &[u8], at: usize, byte: u8) -> usize
-    requires { at ≤ length text.now }
-    ensures is { result ≡ at + length (until byte (drop at text.now)) }
-    ensures within { result ≤ length text.now }
+/// The line that begins at a place, without its line feed.
+pub(crate) fn line_from(text: &[u8], at: usize) -> &[u8]
+    ensures { result.now ≡ line_at text.now at }
 {
-    let mut i = at;
-    while i < text.len() && text[i] != byte {
-        i += 1;
-    }
-    i
+    let end = skip(Other(b'\n'), text, at);
+    text.get(at..end).unwrap_or(&[])
 }
 
-// Whether a text is the name of a catalogue, `|` and a code.
-fn is_pair(text: &[u8]) -> bool
-    ensures { result ≡ pair_ok text.now }
+/// The key of the line that begins at a place: what stands before its last two bytes.
+pub(crate) fn key_from(text: &[u8], at: usize) -> &[u8]
+    ensures { result.now ≡ key_at text.now at }
 {
-    let bar = skip_to(text, 0, b'|');
-    if bar == text.len() {
-        return false;
-    }
-    is_name(&text[0..bar]) && is_code(&text[bar + 1..text.len()])
+    let line = line_from(text, at);
+    &line[..line.len().saturating_sub(2)]
 }
 
-/// Whether a line tells a fact: catalogue, code and a digit 0 to 6, with `|` between them.
-pub(crate) fn is_fact(line: &[u8]) -> bool
-    ensures { result ≡ fact_line line.now }
+// The name of a catalogue and the code between which `|` stands in a text, if it is made of them.
+fn pair(text: &[u8]) -> Option<(&[u8], &[u8])>
+    ensures { MatchOption result (pair_ok text.now ≡ false) (λ p. (pair_ok text.now ≡ true) × (text.now ≡ p.0.now ++ 124 ∷ p.1.now)) }
 {
-    let n = line.len();
-    if n < 2 || line[n - 2] != b'|' || line[n - 1] < b'0' || line[n - 1] > b'6' {
-        return false;
-    }
-    is_pair(&line[0..n - 2])
+    let (name, rest) = text.split_at(skip(Other(b'|'), text, 0));
+    let code = rest.strip_prefix(b"|")?;
+    (is_name(name) && is_code(code)).then_some((name, code))
+}
+
+/// The catalogue's name and the code of a line that tells a fact: both and a digit 0 to 6, with `|` between them.
+pub(crate) fn fact(line: &[u8]) -> Option<(&[u8], &[u8])>
+    ensures { MatchOption result (fact_line line.now ≡ false) (λ p. (fact_line line.now ≡ true) × (key_of line.now ≡ p.0.now ++ 124 ∷ p.1.now)) }
+{
+    let [key @ .., b'|', b'0'..=b'6'] = line else {
+        return None;
+    };
+    pair(key)
+}
+
+/// The decimals of the fact that a line tells.
+pub(crate) fn decimals_of(line: &[u8]) -> u8
+    requires { fact_line line.now ≡ true }
+    ensures { result ≡ last_of line.now - 48 }
+{
+    line[line.len() - 1] - b'0'
 }
 
 /// How many line feeds a text has.
 pub(crate) fn line_feeds(text: &[u8]) -> usize
     ensures { result ≡ length (ended_lines text.now) }
 {
-    let mut n = 0;
-    for b in text {
-        if *b == b'\n' {
-            n += 1;
-        }
-    }
-    n
+    text.iter().filter(|b| **b == b'\n').count()
 }
 
 /// Whether the first line is ended, and is the one that every catalogue text has.
 pub(crate) fn has_header(text: &[u8]) -> bool
     ensures { result ≡ header_there text.now }
 {
-    let end = skip_to(text, 0, b'\n');
-    end < text.len() && is_same(&text[0..end], HEADER)
+    text.starts_with(HEADER)
 }

@@ -1,24 +1,45 @@
-// A catalogue text with the index of its lines.
-ghost use Rattle.std.specs.Prelude.{◌≡◌, ◌≤◌, true, false, length};
-ghost use Rattle.rules.specs.Catalogues.{CatalogueFinds};
+// The set of a catalogue text.
+ghost use Rattle.std.specs.Prelude.{◌≡◌, length};
+ghost use Rattle.std.specs.Option.{ForSome, ForNone};
+ghost use Rattle.rules.specs.Catalogues.{CatalogueFinds, facts_of};
 ghost use Rattle.rules.specs.declared.grounds.Fault.{Fault};
-ghost use Rattle.catalogues.specs.Ordered.{Stand, Covers, Ascends};
+ghost use Rattle.theory.proofs.CatalogueLaws.{text_bounded};
 
-/// The most line feeds of a catalogue text.
-pub const MOST_LINES: usize = 4_096;
+use crate::index::Index;
+use crate::lines::{decimals_of, line_from, name_of};
+use crate::sets::CatalogueSet;
+use rules::Catalogue;
 
 /// The set of a catalogue text: its facts, and none where it has a fault.
 #[derive(Drop)]
 pub struct CatalogueText<'a> {
     pub(crate) text: &'a [u8],
-    // The places of the lines of facts, in the order of their catalogues and codes.
-    pub(crate) index: [u16; MOST_LINES],
-    pub(crate) count: usize,
-    pub(crate) good: bool,
-    ghost faultless: { good ≡ true → (f : Fault) → CatalogueFinds text.now f → ⊥ },
-    ghost faulty: { good ≡ false → ((f : Fault) → CatalogueFinds text.now f → ⊥) → ⊥ },
-    ghost room: { count ≤ 4096 },
-    ghost lists: { Stand text.now (length text.now) index count },
-    ghost covers: { good ≡ true → Covers text.now (length text.now) index count },
-    ghost ascends: { Ascends text.now index count },
+    // The index of the text, where it has no fault.
+    index: Option<Index<'a>>,
+    ghost whole: { ForSome index (λ i. (i.text.now ≡ text.now) × (i.at ≡ length text.now)) },
+    ghost faulty: { ForNone index (((f : Fault) → CatalogueFinds text.now f → ⊥) → ⊥) },
+}
+
+impl<'a> CatalogueText<'a> {
+    /// The set of a catalogue text, which is checked here.
+    pub fn new(text: &'a [u8]) -> CatalogueText<'a>
+        ensures { result.text.now ≡ text.now }
+    {
+        CatalogueText {
+            text,
+            index: Index::new(text).ok(),
+        }
+    }
+}
+
+impl CatalogueSet for CatalogueText<'_> {
+    ghost facts = { λ s. facts_of s.text.now };
+
+    ghost small = { λ s. text_bounded s.text.now };
+
+    fn decimals(&self, catalogue: Catalogue, code: &[u8]) -> Option<u8> {
+        let index = self.index.as_ref()?;
+        let i = index.search(name_of(catalogue), code).ok()?;
+        Some(decimals_of(line_from(self.text, index.places[i] as usize)))
+    }
 }

@@ -1,6 +1,8 @@
 -- The attributes that the rows of a node and its slots give.
 use Rattle.std.proofs.Common.{◌≡◌, ℕ, ◌+◌, ◌<◌, ◌≤◌, Bool, true, not, List, [], ◌∷◌, ◌++◌, map, length, get_or, drop, is_some, Some, None, Option, sym, refl, ap, ◌∙◌, subst, ⊎_elim, arith}
-use Rattle.std.specs.Option.{option_or}
+use Rattle.std.specs.Borrow.{Bor}
+use Rattle.std.specs.Option.{option_or, option_map}
+use Rattle.std.specs.Prelude.{MatchOption}
 use Rattle.std.proofs.lemmas.List.{drop_more, drop_all, drop-map, get_or_past}
 use Rattle.std.proofs.lemmas.Bool.{cases_lt, and_parts, false≢true}
 use Rattle.rules.specs.Bytes.{all}
@@ -19,8 +21,8 @@ use Rattle.theory.proofs.SchemaLaws.{at_node}
 use Rattle.schema.specs.Meant.{row_meant}
 use Rattle.schema.specs.declared.attributes.Row.{Row as CodeRow}
 use Rattle.tags.specs.declared.attributes.Span.{Span}
-use Rattle.reader.specs.Slots.{kept_in, Filled}
-use Rattle.fair.specs.Rows.{namespace_text, row_value, row_values, row_text}
+use Rattle.reader.specs.Slots.{raw_in, lent, kept_in, Filled}
+use Rattle.fair.specs.Rows.{namespace_text, row_value, given_value, row_values, row_text}
 
 -- a text that a kind fixes is its own kept form
 only_kept : (k : Kind) → kept (resolved (only_text k)) ≡ only_text k
@@ -54,11 +56,20 @@ namespace_only Rfc h = absurd (false≢true h)
 namespace_only Seal h = absurd (false≢true h)
 namespace_only (Code c) h = absurd (false≢true h)
 
--- a row of a namespace has its text
-pub namespace_row : (d : List ℕ) (r : Row) (s : Option Span) (t : List ℕ) → namespace_text r.kind ≡ Some t → attribute_text (fair_attribute r.name (kept (resolved t))) ≡ row_text r (row_value d r s)
-namespace_row d r s t e =
-    let is : only_text r.kind ≡ t = let f = namespace_only r.kind (ap is_some e) in cc in
-    ap (λ x. attribute_text (fair_attribute r.name x)) (subst (λ x. kept (resolved x) ≡ x) is (only_kept r.kind)) ∙ ap (λ o. row_text r (option_or o (kept_in d r.kind s))) (sym e)
+-- a row that has a text is written with it
+pub row_written : (r : Row) (n raw : Option (Bor (List ℕ))) (t : Bor (List ℕ)) → MatchOption n (namespace_text r.kind ≡ None) (λ b. namespace_text r.kind ≡ Some b.now) → Some t ≡ option_or n raw →
+    attribute_text (fair_attribute r.name (kept (resolved t.now))) ≡ row_text r (given_value r (lent raw))
+row_written r (Some b) raw t m e =
+    let is : only_text r.kind ≡ t.now = let f = namespace_only r.kind (ap is_some m) in cc in
+    let same : b.now ≡ t.now = cc in
+    ap (λ x. attribute_text (fair_attribute r.name x)) (subst (λ x. kept (resolved x) ≡ x) is (only_kept r.kind)) ∙ ap (λ o. row_text r (option_or o (option_map (λ x. kept (resolved x)) (lent raw)))) (sym (m ∙ ap Some same))
+row_written r None (Some b) t m e = let same : t.now ≡ b.now = cc in ap (λ x. attribute_text (fair_attribute r.name (kept (resolved x)))) same ∙ ap (λ o. row_text r (option_or o (Some (kept (resolved b.now))))) (sym m)
+row_written r None None t m e = absurd cc
+
+-- the raw value that a slot's span holds is kept as the slot's
+slot_value : (d : List ℕ) (r : Row) (s : Option Span) → given_value r (raw_in d s) ≡ row_value d r s
+slot_value d r None = refl
+slot_value d r (Some s) = refl
 
 -- a row of a namespace, or of another attribute
 abbrev of_namespace : Row → Bool
@@ -111,15 +122,16 @@ module _ (d : List ℕ) (rs : List CodeRow) (ss : List (Option Span)) (i : ℕ) 
       (λ k. ap (row_values d (r ∷ q)) (drop_all i ss k) ∙ (λ j. row_value d r (sym (e ∙ get_or_past ss i None k) j) ∷ row_values d q (sym (drop_all (i + 1) ss (omega arith)) j)))
       (cases_lt i (length ss))
 
-  pub next_row : (z : CodeRow) (o : Option Span) → i < length rs → o ≡ get_or ss i None →
-      rows_text d (drop i (map row_meant rs)) (drop i ss) ≡ row_text (row_meant (get_or rs i z)) (row_value d (row_meant (get_or rs i z)) o) ++ rows_text d (drop (i + 1) (map row_meant rs)) (drop (i + 1) ss)
-  next_row z o h e =
+  pub next_row : (z : CodeRow) (raw : Option (List ℕ)) → i < length rs → raw ≡ raw_in d (get_or ss i None) →
+      rows_text d (drop i (map row_meant rs)) (drop i ss) ≡ row_text (row_meant (get_or rs i z)) (given_value (row_meant (get_or rs i z)) raw) ++ rows_text d (drop (i + 1) (map row_meant rs)) (drop (i + 1) ss)
+  next_row z raw h e =
       let r : Row = row_meant (get_or rs i z) in
       let q : List Row = drop (i + 1) (map row_meant rs) in
       let at_row : drop i (map row_meant rs) ≡ r ∷ q = drop-map row_meant i rs ∙ ap (map row_meant) (drop_more rs i z h) ∙ ap (λ x. r ∷ x) (sym (drop-map row_meant (i + 1) rs)) in
       ap (λ x. rows_text d x (drop i ss)) at_row
-      ∙ ap (λ x. attributes_text (fair_attributes (r ∷ q) x)) (next_value r q o e)
-      ∙ first_text r (row_value d r o) q (row_values d q (drop (i + 1) ss))
+      ∙ ap (λ x. attributes_text (fair_attributes (r ∷ q) x)) (next_value r q _ refl)
+      ∙ first_text r (row_value d r (get_or ss i None)) q (row_values d q (drop (i + 1) ss))
+      ∙ ap (λ v. row_text r v ++ rows_text d q (drop (i + 1) ss)) (sym (ap (given_value r) e ∙ slot_value d r (get_or ss i None)))
 
   pub no_more_rows : length rs ≤ i → rows_text d (drop i (map row_meant rs)) (drop i ss) ≡ []
   no_more_rows h = ap (λ x. rows_text d x (drop i ss)) (drop-map row_meant i rs ∙ ap (map row_meant) (drop_all i rs h))

@@ -1,7 +1,8 @@
 -- The values that the fair copy has for the rows of a node.
 use Rattle.std.specs.Prelude.{ℕ, List, [], ◌∷◌, Some, None, Option}
-use Rattle.std.specs.Option.{option_or}
-use Rattle.rules.specs.Kinds.{fixed_text}
+use Rattle.std.specs.Option.{option_or, option_map}
+use Rattle.rules.specs.Kept.{resolved}
+use Rattle.rules.specs.Kinds.{fixed_text, keep}
 use Rattle.rules.specs.Markup.{attribute_text}
 use Rattle.rules.specs.Schema.{Row}
 use Rattle.rules.specs.Texts.{fair_attribute}
@@ -35,6 +36,10 @@ namespace_text (Code c) = None
 -- a row has the text of its namespace, or the kept form of what its slot holds
 abbrev pub row_value : List ℕ → Row → Option Span → Option (List ℕ)
 row_value d r s = option_or (namespace_text r.kind) (kept_in d r.kind s)
+
+-- a row has the text of its namespace, or the kept form of the raw value that it is given
+abbrev pub given_value : Row → Option (List ℕ) → Option (List ℕ)
+given_value r raw = option_or (namespace_text r.kind) (option_map (λ t. keep r.kind (resolved t)) raw)
 
 -- the values of rows, each by its slot, if it has one
 abbrev pub row_values : List ℕ → List Row → List (Option Span) → List (Option (List ℕ))

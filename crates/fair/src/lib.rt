@@ -6,5 +6,5 @@ mod rows;
 mod sending;
 mod values;
 
-pub use copy::write;
+pub use copy::{FairCopy, write};
 pub use sending::{fair_copy_length, send_fair_copy};

@@ -1,4 +1,3 @@
 pub mod Reading
 pub mod Pieces
-pub mod Classes
 pub mod Characters

@@ -1,46 +1,32 @@
-// Texts of bytes of one class, and the numbers that digits write.
-ghost use Rattle.std.specs.Prelude.{◌≡◌, ◌+◌, ◌^◌, ◌<◌, ◌≤◌, true, false, length, MatchOption};
+// The bytes that seals and RFCs are made of, and the numbers that digits write.
+ghost use Rattle.std.specs.Prelude.{◌≡◌, ◌^◌, ◌<◌, ◌≤◌, true, false, length, MatchOption};
 ghost use Rattle.std.specs.Char.{is_ascii_digit};
 ghost use Rattle.rules.specs.Bytes.{all};
-ghost use Rattle.rules.specs.Kinds.{number, numeral_in as numeral_in_of, part};
-ghost use Rattle.kinds.specs.Classes.{member};
+ghost use Rattle.rules.specs.Kinds.{base64, rfc_mark, number, numeral_in as numeral_in_of};
 
-// The classes of bytes that values are made of.
+use byte_classes::ByteClass;
+
+// The bytes of a seal or a certificate.
 #[derive(Clone, Copy)]
-pub enum Class {
-    Digit,
-    Alphanumeric,
-    Base64,
-    RfcMark,
+pub(crate) struct Base64;
+
+// The marks that close an RFC.
+#[derive(Clone, Copy)]
+pub(crate) struct RfcMark;
+
+impl ByteClass for Base64 {
+    ghost holds = { λ _. base64 };
+
+    fn has(&self, b: u8) -> bool {
+        b.is_ascii_alphanumeric() || matches!(b, b'+' | b'/' | b'=')
+    }
 }
 
-impl Class {
-    // Whether a byte is of the class.
-    fn has(self, b: u8) -> bool
-        ensures { result ≡ member self b }
-    {
-        match self {
-            Class::Digit => b.is_ascii_digit(),
-            Class::Alphanumeric => b.is_ascii_alphabetic() || b.is_ascii_digit(),
-            Class::Base64 => b.is_ascii_alphabetic()
-                || b.is_ascii_digit()
-                || b == b'+'
-                || b == b'/'
-                || b == b'=',
-            Class::RfcMark => b.is_ascii_uppercase() || b.is_ascii_digit(),
-        }
-    }
+impl ByteClass for RfcMark {
+    ghost holds = { λ _. rfc_mark };
 
-    // Whether every byte of a text is of the class.
-    pub fn has_all(self, text: &[u8]) -> bool
-        ensures { result ≡ all (member self) text.now }
-    {
-        for b in text {
-            if !self.has(*b) {
-                return false;
-            }
-        }
-        true
+    fn has(&self, b: u8) -> bool {
+        b.is_ascii_uppercase() || b.is_ascii_digit()
     }
 }
 
@@ -59,14 +45,10 @@ pub(crate) fn numeral(text: &[u8]) -> Option<u64>
     Some(n)
 }
 
-// The number that the digits at a place of a text write, if it is from `low` to `high`.
-pub(crate) fn numeral_in(text: &[u8], from: usize, size: usize, low: u64, high: u64) -> Option<u64>
-    requires { (from + size ≤ length text.now) × (size ≤ 10) }
-    ensures { MatchOption result (numeral_in_of low high (part from size text.now) ≡ false) (λ n. (numeral_in_of low high (part from size text.now) ≡ true) × (n ≡ number (part from size text.now))) }
+// The number that a text of digits writes, if it is from `low` to `high`.
+pub(crate) fn numeral_in(text: &[u8], low: u64, high: u64) -> Option<u64>
+    requires { length text.now ≤ 10 }
+    ensures { MatchOption result (numeral_in_of low high text.now ≡ false) (λ n. (numeral_in_of low high text.now ≡ true) × (n ≡ number text.now)) }
 {
-    let n = numeral(&text[from..from + size])?;
-    if n < low || n > high {
-        return None;
-    }
-    Some(n)
+    numeral(text).filter(|n| (low..=high).contains(n))
 }

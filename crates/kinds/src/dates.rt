@@ -25,50 +25,32 @@ fn is_day(text: &[u8]) -> bool
     if text.len() != 10 {
         return false;
     }
-    if text[4] != b'-' {
-        return false;
-    }
-    if text[7] != b'-' {
-        return false;
-    }
-    let Some(year) = numeral_in(text, 0, 4, 2010, 2099) else {
+    let Some(year) = numeral_in(&text[..4], 2010, 2099) else {
         return false;
     };
-    let Some(month) = numeral_in(text, 5, 2, 1, 12) else {
+    let Some(month) = numeral_in(&text[5..7], 1, 12) else {
         return false;
     };
-    numeral_in(text, 8, 2, 1, days_in(year, month)).is_some()
+    text[4] == b'-' && text[7] == b'-' && numeral_in(&text[8..], 1, days_in(year, month)).is_some()
 }
 
 // hh:mm:ss, to 23:59:59.
 fn is_time(text: &[u8]) -> bool
     ensures { result ≡ time_ok text.now }
 {
-    if text.len() != 8 {
-        return false;
-    }
-    if text[2] != b':' || text[5] != b':' {
-        return false;
-    }
-    numeral_in(text, 0, 2, 0, 23).is_some()
-        && numeral_in(text, 3, 2, 0, 59).is_some()
-        && numeral_in(text, 6, 2, 0, 59).is_some()
+    text.len() == 8
+        && text[2] == b':'
+        && text[5] == b':'
+        && numeral_in(&text[..2], 0, 23).is_some()
+        && numeral_in(&text[3..5], 0, 59).is_some()
+        && numeral_in(&text[6..], 0, 59).is_some()
 }
 
 // A day, 'T' and a time.
 pub(crate) fn is_date_time(text: &[u8]) -> bool
     ensures { result ≡ date_time_ok text.now }
 {
-    if text.len() != 19 {
-        return false;
-    }
-    if text[10] != b'T' {
-        return false;
-    }
-    if !is_day(&text[0..10]) {
-        return false;
-    }
-    is_time(&text[11..])
+    text.len() == 19 && is_day(&text[..10]) && text[10] == b'T' && is_time(&text[11..])
 }
 
 /// The day and time that a value is, as it stands in the value.
@@ -76,5 +58,5 @@ pub fn date_time(raw: &[u8]) -> Option<&[u8]>
     ensures { MatchOption result (date_time_ok (kept_form (resolved raw.now)) ≡ false) (λ s. (date_time_ok (kept_form (resolved raw.now)) ≡ true) × (s.now ≡ kept_form (resolved raw.now))) }
 {
     let text = piece(raw);
-    if is_date_time(text) { Some(text) } else { None }
+    is_date_time(text).then_some(text)
 }

@@ -1,64 +1,44 @@
 // The kept form of a value, a byte at a time, with no buffer.
-ghost use Rattle.std.specs.Prelude.{◌≡◌, ◌+◌, ◌<◌, ◌≤◌, length, drop};
-ghost use Rattle.rules.specs.Bytes.{blank};
-ghost use Rattle.rules.specs.Kept.{starts, resolved, kept as kept_form};
+ghost use Rattle.std.specs.Prelude.{◌≡◌, ◌+◌, ◌<◌, ◌≤◌, length, drop, [], ◌∷◌, MatchOption};
+ghost use Rattle.rules.specs.Kept.{resolved, kept as kept_form};
 ghost use Rattle.kinds.specs.Reading.{letter_of, rest, Gives};
 ghost use Rattle.std.specs.Iterator.{at_most};
 
-// Whether a text stands at `at`.
-fn begins(raw: &[u8], at: usize, text: &[u8]) -> bool
-    requires { at ≤ length raw.now }
-    ensures { result ≡ starts text.now (drop at raw.now) }
-{
-    let mut i = 0;
-    while i < text.len() {
-        if raw.len() - at <= i {
-            return false;
-        }
-        if text[i] != raw[at + i] {
-            return false;
-        }
-        i += 1;
-    }
-    true
-}
+use byte_classes::is_blank;
 
-// The byte at `at` with its escape resolved, and how many bytes of the escape follow the first.
-fn letter(raw: &[u8], at: usize) -> (u8, usize)
-    requires { at < length raw.now }
-    ensures value { result ≡ letter_of (drop at raw.now) }
-    ensures within { at + 1 + result.1 ≤ length raw.now }
+// The byte that an ampersand before these raw bytes stands for, and how many of them its escape takes.
+fn escape(raw: &[u8]) -> (u8, usize)
+    ensures value { result ≡ letter_of (38 ∷ raw.now) }
+    ensures within { result.1 ≤ length raw.now }
 {
-    if raw[at] != b'&' {
-        return (raw[at], 0);
-    }
-    if begins(raw, at, b"&amp;") {
-        (b'&', 4)
-    } else if begins(raw, at, b"&lt;") {
-        (b'<', 3)
-    } else if begins(raw, at, b"&gt;") {
-        (b'>', 3)
-    } else if begins(raw, at, b"&quot;") {
-        (b'"', 5)
-    } else if begins(raw, at, b"&apos;") {
-        (b'\'', 5)
-    } else {
-        (b'&', 0)
+    match raw {
+        [b'a', b'm', b'p', b';', ..] => (b'&', 4),
+        [b'l', b't', b';', ..] => (b'<', 3),
+        [b'g', b't', b';', ..] => (b'>', 3),
+        [b'q', b'u', b'o', b't', b';', ..] => (b'"', 5),
+        [b'a', b'p', b'o', b's', b';', ..] => (b'\'', 5),
+        _ => (b'&', 0),
     }
 }
 
-// Whether a byte is a space, a tab or an end of line.
-pub(crate) fn is_blank(b: u8) -> bool
-    ensures { result ≡ blank b }
+// The byte that raw bytes begin with, its escape resolved, and the raw bytes after it.
+fn letter(raw: &[u8]) -> Option<(u8, &[u8])>
+    ensures { MatchOption result (raw.now ≡ []) (λ l. (0 < length raw.now) × (l.0 ≡ (letter_of raw.now).0) × (l.1.now ≡ drop (1 + (letter_of raw.now).1) raw.now)) }
 {
-    b == b' ' || b == b'\t' || b == b'\n' || b == b'\r'
+    match raw {
+        [b'&', after @ ..] => {
+            let (b, more) = escape(after);
+            Some((b, &after[more..]))
+        }
+        [b, after @ ..] => Some((*b, after)),
+        [] => None,
+    }
 }
 
 /// Gives the kept form of a value byte by byte: escapes resolved, every run of blanks one space, none at the ends.
 #[derive(Clone, Copy)]
 pub struct Kept<'a> {
     raw: &'a [u8],
-    at: usize,
     begun: bool,
 }
 
@@ -67,11 +47,7 @@ impl<'a> Kept<'a> {
     pub fn new(raw: &'a [u8]) -> Kept<'a>
         ensures { rest result ≡ kept_form (resolved raw.now) }
     {
-        Kept {
-            raw,
-            at: 0,
-            begun: false,
-        }
+        Kept { raw, begun: false }
     }
 }
 
@@ -84,17 +60,16 @@ impl Iterator for Kept<'_> {
 
     fn next(&mut self) -> Option<u8> {
         let mut gap = false;
-        while self.at < self.raw.len() {
-            let (b, more) = letter(self.raw, self.at);
+        while let Some((b, after)) = letter(self.raw) {
             if !is_blank(b) {
                 if gap && self.begun {
                     return Some(b' ');
                 }
                 self.begun = true;
-                self.at += 1 + more;
+                self.raw = after;
                 return Some(b);
             }
-            self.at += 1 + more;
+            self.raw = after;
             gap = true;
         }
         None

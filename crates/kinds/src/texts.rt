@@ -9,21 +9,10 @@ ghost use Rattle.kinds.specs.Reading.{rest};
 use crate::kept::Kept;
 
 // Whether what is left of a kept form is just a text.
-pub(crate) fn is_same(mut left: Kept, text: &[u8]) -> bool
+pub(crate) fn is_same(left: Kept, text: &[u8]) -> bool
     ensures { result ≡ same (rest left.entry) text.now }
 {
-    for t in text {
-        let Some(b) = left.next() else {
-            return false;
-        };
-        if b != *t {
-            return false;
-        }
-    }
-    match left.next() {
-        Some(_) => false,
-        None => true,
-    }
+    left.eq(text.iter().copied())
 }
 
 // How many bytes of a character follow `b`, where `more` were to come before it.

@@ -5,22 +5,20 @@ ghost use Rattle.rules.specs.Kinds.{admitted, KindLaw};
 ghost use Rattle.rules.specs.declared.schema.Kind.TheVariants.{Positive};
 
 use crate::amounts::amount;
-use crate::codes::{is_code, is_digits, is_mark, is_seal};
+use crate::codes::{is_digits, is_mark, is_seal};
 use crate::dates::is_date_time;
 use crate::kept::Kept;
 use crate::pieces::piece;
 use crate::rfcs::is_rfc;
 use crate::texts::{is_same, is_text};
+use byte_classes::is_code;
 use rules::Kind;
 
 // Whether a value is an amount above zero.
 fn is_positive(raw: &[u8]) -> bool
     ensures { result ≡ admitted Positive (resolved raw.now) }
 {
-    match amount(raw) {
-        Some(a) => a.millionths() > 0,
-        None => false,
-    }
+    amount(raw).is_some_and(|a| a.millionths() > 0)
 }
 
 /// Whether a kind admits the value that stands between the quotes of an attribute.

@@ -50,28 +50,12 @@ mod tests {
 
     // Whether a value has this kept form.
     fn keeps(raw: &[u8], form: &[u8]) -> bool {
-        let mut left = Kept::new(raw);
-        for b in form {
-            match left.next() {
-                Some(c) => {
-                    if c != *b {
-                        return false;
-                    }
-                }
-                None => return false,
-            }
-        }
-        left.next().is_none()
+        Kept::new(raw).eq(form.iter().copied())
     }
 
     // Whether a kind gives all values the same answer.
     fn all_are(kind: Kind, values: &[&[u8]], answer: bool) -> bool {
-        for raw in values {
-            if admits(kind, raw) != answer {
-                return false;
-            }
-        }
-        true
+        values.iter().all(|raw| admits(kind, raw) == answer)
     }
 
     #[test]
@@ -88,10 +72,9 @@ mod tests {
         assert!(rt; all_are(Kind::Amount, &AMOUNTS, true));
         assert!(rt; all_are(Kind::Amount, &NO_AMOUNTS, false));
         assert!(rt; !admits(Kind::Positive, b"0.000000"));
-        match amount(b"9999999999.999999") {
-            Some(a) => assert_eq!(rt; a.millionths(), 9_999_999_999_999_999),
-            None => assert!(rt; false),
-        }
+        assert!(rt;
+            amount(b"9999999999.999999").is_some_and(|a| a.millionths() == 9_999_999_999_999_999)
+        );
         assert!(rt; all_are(Kind::DateTime, &MOMENTS, true));
         assert!(rt; all_are(Kind::DateTime, &NO_MOMENTS, false));
     }

@@ -2,7 +2,8 @@
 use Rattle.std.proofs.Common.{ℕ, ◌+◌, List, ◌∷◌, None, Option, sym, ◌∙◌, inl, inr, arith}
 use Rattle.rules.specs.Faults.{rank, Judgement, FirstOf}
 use Rattle.rules.specs.declared.grounds.Fault.{Fault}
-use Rattle.theory.proofs.Compose.{lower_place, judged_as, Either, then_judged, Some_of, some_cons, some_either, Apart, apart_in}
+use Rattle.theory.proofs.Compose.{lower_place, judged_as, Either, then_judged, some_cons, some_either, Apart, apart_in}
+use Rattle.theory.specs.Grounds.{Some_of}
 
 -- where nothing is found at the first part, the rest decides
 pub rest_judged : {S : Type 0} (P : S → Fault → Type 0) (x : S) (xs : List S) → Judgement (P x) None → (o : Option Fault) → Judgement (Some_of P xs) o → Judgement (Some_of P (x ∷ xs)) o

@@ -13,13 +13,14 @@ use Rattle.rules.specs.declared.grounds.Fault.TheVariants.{NotAdmitted, NotInCat
 use Rattle.rules.specs.declared.schema.Catalogue.{Catalogue}
 use Rattle.rules.specs.declared.schema.Kind.{Kind}
 use Rattle.rules.specs.declared.schema.Node.{Node}
-use Rattle.theory.proofs.Compose.{before_itself, judged_as, Some_of}
+use Rattle.theory.proofs.Compose.{before_itself, judged_as}
+use Rattle.theory.specs.Grounds.{Some_of}
 use Rattle.theory.proofs.Options.{none_some, some_same}
 use Rattle.values.specs.Judged.{Judged}
 use Rattle.values.specs.declared.judgement.ValueFault.{ValueFault}
 use Rattle.values.specs.declared.judgement.ValueFault.TheVariants as why
 use Rattle.walk.specs.Events.{Occurrence, opened, closed, told, Found, Tagged}
-use Rattle.walk.specs.declared.event.Event.TheVariants as event
+use Rattle.walk.specs.Opening.{opening}
 use Rattle.walk.specs.declared.event.Opened.{Opened}
 use Rattle.layers.specs.Found.{kind_in, kind_named, ValueFinds, unadmitted, unlisted, fault_at}
 use Rattle.layers.specs.Meeting.{opened_node, Met, Starts}
@@ -88,9 +89,9 @@ abbrev TagJudged : Facts → List ℕ → Opened → Option Fault → Type 0
 TagJudged facts d x r = (gs : List Given) → Tagged d x.attributes gs → Judgement (Some_of (ValueFinds facts x.node) gs) r
 
 -- is one of the node that is met
-pub values_met : (facts : Facts) (d : List ℕ) (x : Opened) (r : Option Fault) → TagJudged facts d x r → (o : Occurrence) → event.Opened x ≡ told o → Found d o → Starts o → Judgement (Met (ValuesFault facts) o) r
+pub values_met : (facts : Facts) (d : List ℕ) (x : Opened) (r : Option Fault) → TagJudged facts d x r → (o : Occurrence) → Some x ≡ opening (told o) → Found d o → Starts o → Judgement (Met (ValuesFault facts) o) r
 values_met facts d x r h (opened s) e t u =
-    let q : x ≡ told_of s = cc in
+    let q : x ≡ told_of s = some_same refl e in
     let k : TagJudged facts d (told_of s) r = subst (λ y. TagJudged facts d y r) q h in
     node_judged facts (opened_node s) r (k s.givens t)
-values_met facts d x r h (closed k) e t u = let z : ◌≡◌ {A = ℕ} 0 1 = cc in absurd (omega arith)
+values_met facts d x r h (closed k) e t u = absurd (none_some refl (sym e))

@@ -12,7 +12,7 @@ use Rattle.rules.specs.declared.grounds.Fault.TheVariants.{NotAdmitted, NotInCat
 use Rattle.rules.specs.declared.schema.Catalogue.{Catalogue}
 use Rattle.rules.specs.declared.schema.Kind.{Kind}
 use Rattle.rules.specs.declared.schema.Node.{Node}
-use Rattle.theory.proofs.Compose.{Some_of}
+use Rattle.theory.specs.Grounds.{Some_of}
 use Rattle.values.specs.declared.judgement.ValueFault.{ValueFault}
 use Rattle.values.specs.declared.judgement.ValueFault.TheVariants as why
 use Rattle.tags.specs.Spans.{part}

@@ -16,8 +16,8 @@ use walk::{Event, Walk};
 fn node_names(document: &[u8], event: Event) -> Result<(), Fault>
     ensures { (o : Occurrence) → event ≡ told o → Found document.now o → Starts o → Judgement (Met NamesFault o) (fault_of result) }
 {
-    if let Event::Opened(opened) = event {
-        attributes(document, opened.place, opened.attributes, opened.node)?;
+    if let Some(opened) = event.opened() {
+        attributes(document, &opened)?;
     }
     Ok(())
 }
@@ -26,8 +26,7 @@ fn node_names(document: &[u8], event: Event) -> Result<(), Fault>
 pub fn names(document: &[u8]) -> Result<(), Fault>
     ensures { (m : Document) → Marks document.now m → InOrder document.now m → Judgement (NamesFound m) (fault_of result) }
 {
-    let mut walk = Walk::new(document);
-    while let Some(event) = walk.next() {
+    for event in Walk::new(document) {
         node_names(document, event)?;
     }
     Ok(())

@@ -5,7 +5,7 @@ ghost use Rattle.rules.specs.Grounds.{rows as rows_of, ValuesFault, decimals as 
 ghost use Rattle.rules.specs.Located.{Given, elements_of};
 ghost use Rattle.rules.specs.Markup.{Document, Marks};
 ghost use Rattle.rules.specs.Values.{values_of};
-ghost use Rattle.theory.proofs.Compose.{Some_of};
+ghost use Rattle.theory.specs.Grounds.{Some_of};
 ghost use Rattle.walk.specs.Events.{Occurrence, told, Found, Tagged};
 ghost use Rattle.walk.specs.Coming.{InOrder};
 ghost use Rattle.layers.specs.Found.{kind_named, given_in, fault_at, ValueFinds, NamesFound, ValuesFound};
@@ -15,7 +15,7 @@ use crate::currency::moneda_decimals;
 use catalogues::CatalogueSet;
 use rules::{Fault, Kind, Node};
 use schema::rows;
-use tags::{AttributeSpan, attribute};
+use tags::{AttributeSpan, Attributes};
 use values::{ValueFault, judge};
 use walk::{Event, Walk};
 
@@ -23,12 +23,10 @@ use walk::{Event, Walk};
 fn kind_of(node: Node, name: &[u8]) -> Option<Kind>
     ensures { result ≡ kind_named (rows_of node) name.now }
 {
-    for row in rows(node) {
-        if row.name == name {
-            return Some(row.kind);
-        }
-    }
-    None
+    rows(node)
+        .iter()
+        .find(|row| row.name == name)
+        .map(|row| row.kind)
 }
 
 /// The fault of a value that begins at a place.
@@ -52,24 +50,19 @@ fn value<C: CatalogueSet>(
 {
     let name = a.name.of(document);
     let raw = a.value.of(document);
-    let place = a.value.start;
     let Some(kind) = kind_of(node, name) else {
         return Ok(());
     };
-    match judge(set, kind, raw) {
-        Ok(_) => Ok(()),
-        Err(fault) => Err(at_place(fault, place)),
-    }
+    judge(set, kind, raw).map_err(|fault| at_place(fault, a.value.start))?;
+    Ok(())
 }
 
 /// Judges the values of the attributes of one tag, which begin at `at`, in document order.
 fn tag_values<C: CatalogueSet>(document: &[u8], at: usize, node: Node, set: &C) -> Result<(), Fault>
     ensures { (gs : List Given) → Tagged document.now at gs → Judgement (Some_of (ValueFinds (C.CatalogueSet.facts set.now) node) gs) (fault_of result) }
 {
-    let mut i = at;
-    while let Some(a) = attribute(document, i) {
+    for a in Attributes::new(document, at) {
         value(document, a, node, set)?;
-        i = a.value.end + 1;
     }
     Ok(())
 }
@@ -78,9 +71,9 @@ fn tag_values<C: CatalogueSet>(document: &[u8], at: usize, node: Node, set: &C) 
 fn node_values<C: CatalogueSet>(document: &[u8], event: Event, set: &C) -> Result<(), Fault>
     ensures { (o : Occurrence) → event ≡ told o → Found document.now o → Starts o → Judgement (Met (ValuesFault (C.CatalogueSet.facts set.now)) o) (fault_of result) }
 {
-    match event {
-        Event::Opened(opened) => tag_values(document, opened.attributes, opened.node, set),
-        Event::Closed(_) => Ok(()),
+    match event.opened() {
+        Some(opened) => tag_values(document, opened.attributes, opened.node, set),
+        None => Ok(()),
     }
 }
 
@@ -88,8 +81,7 @@ fn node_values<C: CatalogueSet>(document: &[u8], event: Event, set: &C) -> Resul
 fn all_values<C: CatalogueSet>(document: &[u8], set: &C) -> Result<(), Fault>
     ensures { (m : Document) → Marks document.now m → InOrder document.now m → Judgement (ValuesFound (C.CatalogueSet.facts set.now) m) (fault_of result) }
 {
-    let mut walk = Walk::new(document);
-    while let Some(event) = walk.next() {
+    for event in Walk::new(document) {
         node_values(document, event, set)?;
     }
     Ok(())

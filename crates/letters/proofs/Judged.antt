@@ -1,8 +1,8 @@
 -- The judgement of a document's letters, from where they end.
-use Rattle.std.proofs.Common.{◌≡◌, ℕ, ◌<◌, ◌≤◌, true, List, length, Some, None, sym, subst, arith}
+use Rattle.std.proofs.Common.{◌≡◌, ℕ, ◌<◌, ◌≤◌, true, List, length, Some, None, Ok, Err, Result, MatchResult, sym, subst, arith}
 use Rattle.std.proofs.lemmas.List.{take_all}
 use Rattle.std.proofs.lemmas.Bool.Decides.{nat_tests}
-use Rattle.rules.specs.Faults.{rank, not_after, Judgement}
+use Rattle.rules.specs.Faults.{rank, not_after, Judgement, fault_of}
 use Rattle.rules.specs.Grounds.{LettersFault, too_long, bad_letter}
 use Rattle.rules.specs.Letters.{Spelled}
 use Rattle.rules.specs.declared.grounds.Fault.{Fault}
@@ -34,3 +34,9 @@ bad_letter_first d n h (lt, u) = (bad_letter n lt u, first)
     first g (too_long x) = absurd (omega arith)
     first g (bad_letter k x w) =
         let a = u.longest k w.within w.spelled in let b = w.longest n u.within u.spelled in let e : n ≡ k = omega arith in grind (arith, nat_tests)
+
+-- the judgement of the end of a document's letters, told as a fault
+pub judged : (d : List ℕ) (r : Result (Unit {0}) ℕ) (m : Result (Unit {0}) Fault) → length d ≤ 65536 → MatchResult r (λ _. Spelled d) (EndsAt d)
+    → MatchResult r (λ x. m ≡ Ok x) (λ n. m ≡ Err (BadLetter n)) → Judgement (LettersFault d) (fault_of m)
+judged d (Ok x) m h s is = rw is (none_found d h s)
+judged d (Err n) m h s is = rw is (bad_letter_first d n h s)

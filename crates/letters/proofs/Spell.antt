@@ -1,5 +1,5 @@
 -- What the spelling of characters says of the beginnings of a text.
-use Rattle.std.proofs.Common.{◌≡◌, ℕ, ◌+◌, ◌<◌, ◌≤◌, true, List, [], ◌∷◌, ◌++◌, length, take, drop, IsUtf8, sym, refl, ap, ◌∙◌, subst, ⊎_elim, arith, length-append, take-append-drop, length-take}
+use Rattle.std.proofs.Common.{◌≡◌, ℕ, ◌+◌, ◌<◌, true, List, [], ◌∷◌, ◌++◌, length, take, drop, IsUtf8, sym, refl, ap, ◌∙◌, subst, ⊎_elim, arith, length-append, take-append-drop, length-take}
 use lib.Utf8.{encode, encodes, scalar, scalars}
 use Rattle.std.specs.Str.{IsValidUpTo}
 use Rattle.std.proofs.lemmas.List.{append_assoc, append-nil, take-take, take_at, nil_from_length}
@@ -43,21 +43,18 @@ pub record Sofar (bs : List ℕ) (at : ℕ) (rest : List ℕ) : Type 0 where
   pub whole : front ++ rest ≡ bs
   pub long : length front ≡ at
 
-pub start : (bs rest : List ℕ) → rest ≡ bs → Sofar bs 0 rest
-start bs rest e = record { front = []; spelled = ([], refl, refl); whole = e; long = refl }
+pub start : {bs rest : List ℕ} {at : ℕ} → rest ≡ bs → at ≡ 0 → Sofar bs at rest
+start whole none = record { front = []; spelled = ([], refl, refl); whole = whole; long = sym none }
 
-pub more : {bs rest next : List ℕ} {at n : ℕ} (c : ℕ) → Sofar bs at rest → allowed c ≡ true → rest ≡ encode c ++ next → n ≡ length (encode c) → Sofar bs (at + n) next
-more {bs} {rest} {next} {at} {n} c s h e l =
+pub more : {bs rest next : List ℕ} {at : ℕ} (c : ℕ) → Sofar bs at rest → allowed c ≡ true → rest ≡ encode c ++ next → Sofar bs (at + length (encode c)) next
+more {bs} {rest} {next} c s h e =
     let cs = s.spelled.0 in
     record {
       front = s.front ++ encode c;
       spelled = (cs ++ c ∷ [], all_append cs (c ∷ []) s.spelled.1 (and_from _ _ h refl), encodes-append cs (c ∷ []) ∙ ap (λ x. encodes cs ++ x) (append-nil (encode c)) ∙ ap (λ x. x ++ encode c) s.spelled.2);
       whole = append_assoc s.front (encode c) next ∙ ap (λ x. s.front ++ x) (sym e) ∙ s.whole;
-      long = simp length-append (omega (arith, s.long, l));
+      long = simp length-append (ap (λ n. n + length (encode c)) s.long);
     }
-
-pub within : {bs rest : List ℕ} {at : ℕ} → Sofar bs at rest → at ≤ length bs
-within s = omega (arith, s.long, simp length-append at (ap length s.whole))
 
 pub ended : {bs rest : List ℕ} {at : ℕ} → Sofar bs at rest → length rest ≡ 0 → Spelled bs
 ended {bs} {rest} s e = subst Spelled (sym (append-nil s.front) ∙ ap (λ x. s.front ++ x) (sym (nil_from_length rest e)) ∙ s.whole) s.spelled

@@ -45,13 +45,10 @@ fn characters(text: &str) -> Result<(), usize>
     if all_plain(text.as_bytes()) {
         return Ok(());
     }
-    let mut at = 0;
-    let mut left = text.chars();
-    while let Some(c) = left.next() {
+    for (at, c) in text.char_indices() {
         if !is_allowed(c) {
             return Err(at);
         }
-        at += c.len_utf8();
     }
     Ok(())
 }
@@ -64,7 +61,7 @@ fn spelled(document: &[u8]) -> Result<(), usize>
         Ok(text) => characters(text),
         Err(e) => {
             let n = e.valid_up_to();
-            let text = unsafe { from_utf8_unchecked(&document[0..n]) };
+            let text = unsafe { from_utf8_unchecked(&document[..n]) };
             characters(text)?;
             Err(n)
         }
@@ -78,10 +75,7 @@ pub fn check(document: &[u8]) -> Result<(), Fault>
     if document.len() > LIMIT {
         return Err(Fault::TooLong);
     }
-    match spelled(document) {
-        Ok(()) => Ok(()),
-        Err(place) => Err(Fault::BadLetter { place }),
-    }
+    spelled(document).map_err(|place| Fault::BadLetter { place })
 }
 
 #[cfg(test)]

@@ -3,7 +3,7 @@ use Rattle.std.proofs.Common.{◌≡◌, ℕ, zero, suc, ◌+◌, ◌<◌, Bool,
 use Rattle.std.proofs.lemmas.Bool.{eqb-true, ne_eqb, lt-ltb, both_ways, cond-true, cond-false, and_parts, false≢true}
 use Rattle.std.proofs.lemmas.Bool.Decides.{nat_tests}
 use Rattle.rules.specs.Bytes.{blank, name_byte, all}
-use Rattle.rules.specs.Markup.{amp, lt, gt, quot, apos, Piece, plain, escaped, plain_byte, piece_ok, piece_text, Quote as Mark, single, double, quote_byte, Attribute, attribute_ok, some, name_ok, Tag, tag_ok, Content, end, empty, full, text, content_ok, elements, declaration, Document, document_text, document_ok}
+use Rattle.rules.specs.Markup.{amp, lt, gt, quot, apos, Piece, plain, escaped, piece_ok, piece_text, Quote as Mark, single, double, quote_byte, Attribute, attribute_ok, some, name_ok, Tag, tag_ok, Content, end, empty, full, text, content_ok, elements, declaration, Document, document_text, document_ok}
 use Rattle.theory.specs.On.{pieces_on, attribute_on, attributes_on, tag_on, content_on}
 use Rattle.theory.proofs.Unique.{content_on_is}
 use Rattle.markup.specs.declared.tag.Quote.{Quote}
@@ -13,6 +13,7 @@ use Rattle.markup.specs.declared.tag.State.{State}
 use Rattle.markup.specs.declared.tag.State.TheVariants as st
 use Rattle.markup.specs.Tags.{to, ends, next}
 use Rattle.markup.specs.Machine.{Stack, Place, fresh, angled, before, start, name, tag, inside, angle, ending, after, closed, land, step}
+use Rattle.markup.proofs.Staying.{said}
 use Rattle.markup.proofs.Leads.{Leads, leads, here, on, loops, ends_name}
 
 -- a byte of a name is none of the marks
@@ -26,10 +27,6 @@ name_not_blank b h = grind (arith, nat_tests)
 abbrev coded : Mark → Quote
 coded single = Single
 coded double = Double
-
-said : (q : Quote) (b : ℕ) → plain_byte b ≡ true → next (st.Value q) b ≡ to (st.Value q)
-said Single b h = grind (arith, nat_tests)
-said Double b h = grind (arith, nat_tests)
 
 module _ (x : List ℕ) (s : Stack) where
   tags : (t t' : State) (b : ℕ) → next t b ≡ to t' → step (tag t x s) b ≡ Some (tag t' x s)

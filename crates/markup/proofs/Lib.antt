@@ -1,4 +1,5 @@
 pub mod Scanning
+pub mod Staying
 pub mod Leads
 pub mod Accepts
 pub mod Completes

@@ -8,11 +8,12 @@ use Rattle.markup.specs.declared.tag.State.{State}
 use Rattle.markup.specs.declared.tag.State.TheVariants as st
 use Rattle.markup.specs.Tags.{Move, stuck, next, Stays}
 use Rattle.markup.specs.Machine.{Place, Stack, fresh, angled, declared, before, start, name, tag, inside, angle, ending, closed, land, step}
-use Rattle.markup.specs.Scans.{cut, Skips, Shares}
-use Rattle.markup.specs.Reads.{Like, Stops, Awaits, Begun}
+use Rattle.markup.specs.Scans.{cut}
+use Rattle.markup.specs.Reads.{Like, Stops, Awaits}
+use Rattle.markup.proofs.Scanning.{Skips, Shares}
 use Rattle.markup.proofs.Steps.{at_like, like_as, goes_on, stuck_at, halts, past_all, Spells, misspelled, spelled}
 
-module _ {d : List ℕ} {i j : ℕ} (s : Stack) (h : Skips name_byte d i j) (b : Begun d i s) where
+module _ {d : List ℕ} {i j : ℕ} (s : Stack) (h : Skips name_byte d i j) (b : Like d i (start s)) where
   -- one byte more of what stands from i on
   more : (n : ℕ) → i + n < length d → take n (drop i d) ++ get_or d (i + n) 0 ∷ [] ≡ take (n + 1) (drop i d)
   more n lt = sym (take_more (drop i d) n 0 (omega (arith, length-drop i d)) ∙ ap (λ y. take n (drop i d) ++ y ∷ []) (get_or-drop i d n 0))
@@ -26,6 +27,10 @@ module _ {d : List ℕ} {i j : ℕ} (s : Stack) (h : Skips name_byte d i j) (b :
       subst (λ k. Like d (i + k) (name (take k (drop i d)) s)) (omega arith)
       (subst (λ x. Like d (i + (suc n + 1)) (name x s)) (more (suc n) (omega (arith, h.within)))
       (goes_on _ (i + (suc n + 1)) (omega arith) (named n (omega arith)) (omega (arith, h.within)) (cond-true _ _ _ (h.each (i + suc n) (omega arith) (omega arith)))))
+
+  -- no name begins there
+  pub nameless : j ≡ i → Stops d i
+  nameless e = halts b refl (λ lt. cond-false _ _ _ (subst (λ n. name_byte (get_or d n 0) ≡ false) e (h.stops (omega arith))))
 
   -- after its name a start tag goes on as after a part
   pub past_name : i < j → Like d j (tag st.Part (cut d i j) s)
@@ -77,7 +82,7 @@ module _ {d : List ℕ} {i : ℕ} (n : List ℕ) (s : Stack) (a : Like d i (angl
   too_deep deep no_slash = halts a refl (λ lt. cond-false _ _ _ (ne_eqb _ _ (no_slash lt)) ∙ cond-false _ _ _ (le-ltb (length s) 5 deep))
 
   -- a child begins
-  pub to_child : length s < 5 → (i < length d → get_or d i 0 ≡ 47 → ⊥) → Begun d i (n ∷ s)
+  pub to_child : length s < 5 → (i < length d → get_or d i 0 ≡ 47 → ⊥) → Like d i (start (n ∷ s))
   to_child room no_slash = like_as _ a (λ lt. cond-false _ _ _ (ne_eqb _ _ (no_slash lt)) ∙ cond-true _ _ _ (lt-ltb (length s) 5 room)) refl
 
 spells_declaration : Spells declared
@@ -109,20 +114,20 @@ module _ {d : List ℕ} {i k : ℕ} (zero' : i ≡ 0) (h : Shares d i declaratio
       goes_on (declared (drop 2 declaration)) (i + 2) (omega arith) (after_one (omega arith)) (omega (arith, h.within)) (ap (step angled) (head_shared 1 (omega arith)))
 
   -- the declaration stands there only in part
-  pub cut_off : 2 ≤ k → k < length declaration → Stops d k
-  cut_off le short = subst (Stops d) (omega arith) (misspelled spells_declaration h 2 le (declaring_from le) short)
+  pub cut_off : 2 ≤ k → k < length declaration → Stops d (i + k)
+  cut_off le short = misspelled spells_declaration h 2 le (declaring_from le) short
 
   -- no declaration: the root begins at once
-  pub root_begun : k ≡ 1 → Begun d 1 []
+  pub root_begun : k ≡ 1 → Like d (i + k) (start [])
   root_begun e =
-      like_as (start []) (after_one (omega arith)) (λ lt. cond-false _ _ _ (head_differs 1 e lt (omega arith))) refl
+      subst (λ n. Like d n (start [])) (omega arith) (like_as (start []) (after_one (omega arith)) (λ lt. cond-false _ _ _ (head_differs 1 e lt (omega arith))) refl)
 
   -- no declaration, or a whole one
-  pub before_root : (k ≡ 0) ⊎ (length declaration ≤ k) → Like d k before
+  pub before_root : (k ≡ 0) ⊎ (length declaration ≤ k) → Like d (i + k) before
   before_root =
       ⊎_elim
-      (λ e. subst (λ n. Like d n before) (sym e) (like_as before at_start (λ lt. alike _ (head_differs 0 e lt (omega arith))) refl))
-      (λ all. subst (λ n. Like d n before) (omega arith) (spelled spells_declaration h 2 (omega arith) (declaring_from (omega arith)) all))
+      (λ e. subst (λ n. Like d n before) (omega arith) (like_as before at_start (λ lt. alike _ (head_differs 0 e lt (omega arith))) refl))
+      (λ all. spelled spells_declaration h 2 (omega arith) (declaring_from (omega arith)) all)
     where
       -- at the start of a text all bytes but '<' do as later before the root
       alike : (b : ℕ) → eqb b 60 ≡ false → step fresh b ≡ step before b

@@ -5,8 +5,8 @@ use Rattle.std.proofs.lemmas.Bool.{cases_lt, cond-true, cond-false, eq-eqb, ne_e
 use Rattle.rules.specs.Bytes.{blank}
 use Rattle.rules.specs.declared.grounds.Fault.TheVariants.{NotWellMarked}
 use Rattle.markup.specs.Machine.{Place, fresh, step, finished}
-use Rattle.markup.specs.Scans.{Skips, Shares}
 use Rattle.markup.specs.Reads.{At, Like, Stops, Refused, Awaits}
+use Rattle.markup.proofs.Scanning.{Skips, Shares}
 use Rattle.markup.proofs.Leads.{Leads, leads, here, on}
 
 module _ {d : List ℕ} {i : ℕ} {p : Place} where

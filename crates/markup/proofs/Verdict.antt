@@ -23,15 +23,9 @@ reads d m = subst (λ l. run fresh l ≡ Some after) m.1.1 (accepts m.0 m.1.0).r
 pub passed : (u : List ℕ) (p : Place) → run fresh u ≡ Some p → Viable u
 passed u p e = let (w, k) = completes p in (w, rebuilds (u ++ w) (leads {p = fresh} {q = p} {u = u} (record { runs = e }) k).runs)
 
-none_some : {p : Place} → None ≡ Some p → ⊥
-none_some e = let z : ◌≡◌ {A = ℕ} 0 1 = cc in omega arith
-
-some_same : {p q : Place} → Some p ≡ Some q → p ≡ q
-some_same e = cc
-
 -- what the reader cannot pass begins no well-marked text
 pub lost : (u : List ℕ) → run fresh u ≡ None → Viable u → ⊥
-lost u e v = none_some (sym (run-++ fresh u v.0 ∙ ap (λ o. bind o (λ c. run c v.0)) e) ∙ reads _ v.1)
+lost u e v = let none : None ≡ Some after = sym (run-++ fresh u v.0 ∙ ap (λ o. bind o (λ c. run c v.0)) e) ∙ reads _ v.1 in cc
 
 -- a beginning of a viable text is viable
 pub shorter : (p q : List ℕ) → Viable (p ++ q) → Viable p
@@ -56,7 +50,9 @@ module _ {d : List ℕ} {n : ℕ} (k : Stops d n) where
   unmarked m =
       ⊎_elim
       (λ h. no_more h (drop (n + 1) d, subst WellMarked (sym (take-append-drop (n + 1) d)) m))
-      (λ h. both_ways (finished k.place) h.1 (ap finished (some_same (sym k.at.runs ∙ ap (run fresh) (take_all n d (omega (arith, h.0))) ∙ reads d m))))
+      (λ h.
+      let last : Some k.place ≡ Some after = sym k.at.runs ∙ ap (run fresh) (take_all n d (omega (arith, h.0))) ∙ reads d m in
+      let same : k.place ≡ after = cc in both_ways (finished k.place) h.1 (ap finished same))
       k.stuck
 
   -- and there its longest viable beginning ends

@@ -3,8 +3,8 @@ use Rattle.std.specs.Prelude.{◌≡◌, ℕ, ◌<◌, ◌≤◌, false, cond, �
 use Rattle.rules.specs.declared.grounds.Fault.{Fault}
 use Rattle.rules.specs.declared.grounds.Fault.TheVariants.{NotWellMarked}
 use Rattle.markup.specs.declared.document.Opened.{Opened}
+use Rattle.markup.specs.declared.reader.Reader.{Reader}
 use Rattle.markup.specs.Machine.{Stack, Place, fresh, start, inside, closed, awaits, step, run, finished}
-use Rattle.markup.specs.Scans.{cut}
 
 -- the reader stands at p after the first i bytes of d
 pub record At (d : List ℕ) (i : ℕ) (p : Place) : Type 0 where
@@ -30,23 +30,27 @@ pub record Refused (d : List ℕ) (f : Fault) : Type 0 where
   pub is : f ≡ NotWellMarked place
   pub stops : Stops d place
 
--- what is read comes to p, or else the reader stops
-abbrev pub Comes : List ℕ → Result ℕ Fault → Place → Type 0
-Comes d r p = MatchResult r (λ i. Like d i p) (Refused d)
-
 -- blanks change nothing at p, and then only the byte c leads on, to q
 pub record Awaits (p : Place) (c : ℕ) (q : Place) : Type 0 where
   pub steps : (b : ℕ) → step p b ≡ awaits p c q b
   pub unfinished : finished p ≡ false
 
--- an element may begin at i, where its '<' has been read
-abbrev pub Begun : List ℕ → ℕ → Stack → Type 0
-Begun d i s = Like d i (start s)
+-- the reader goes on as from p
+abbrev pub GoesOn : Reader → Place → Type 0
+GoesOn r p = Like r.doc.now r.at p
 
--- where a start tag leads whose name begins at i
-abbrev pub opened : List ℕ → ℕ → Stack → Opened → Place
-opened d i s o = cond o.lone (closed s) (inside (cut d i o.name_end) s)
+-- an element may begin where the reader stands, which has read its '<'
+abbrev pub Begun : Reader → Stack → Type 0
+Begun r s = GoesOn r (start s)
+
+-- what is read comes to p, or else the reader stops
+abbrev pub Comes : Reader → Result (Unit {0}) Fault → Place → Type 0
+Comes r x p = MatchResult x (λ _. GoesOn r p) (Refused r.doc.now)
+
+-- where a start tag leads
+abbrev pub opened : Stack → Opened → Place
+opened s o = cond o.lone (closed s) (inside o.name.now s)
 
 -- a start tag is read to its end, or else the reader stops
-abbrev pub Opens : List ℕ → ℕ → Stack → Result Opened Fault → Type 0
-Opens d i s r = MatchResult r (λ o. Like d o.end (opened d i s o)) (Refused d)
+abbrev pub Opens : Reader → Stack → Result Opened Fault → Type 0
+Opens r s x = MatchResult x (λ o. GoesOn r (opened s o)) (Refused r.doc.now)

@@ -4,6 +4,7 @@
 mod bytes;
 mod document;
 mod laws;
+mod reader;
 mod tag;
 #[cfg(test)]
 mod tests;

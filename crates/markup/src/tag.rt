@@ -2,8 +2,9 @@
 ghost use Rattle.std.specs.Prelude.{◌≡◌, ◌≤◌, length};
 ghost use Rattle.markup.specs.Tags.{next, spell, moved, Stays};
 
-use crate::bytes::{skip_name, skip_plain};
-use byte_classes::{is_blank, is_name_byte};
+use crate::bytes::PlainByte;
+use crate::reader::Reader;
+use byte_classes::{NameByte, is_blank, is_name_byte};
 
 /// The quote that a value stands in.
 #[derive(Clone, Copy)]
@@ -127,15 +128,15 @@ impl StartTag {
         }
     }
 
-    /// Skips what is left of an attribute's name, or plain bytes of a value, which leave the tag in its state.
-    pub(crate) fn skip(&self, doc: &[u8], at: usize) -> usize
-        requires { at ≤ length doc.now }
-        ensures { Stays self.now.state doc.now at result }
+    /// Reads what is left of an attribute's name, or plain bytes of a value, which leave the tag in its state.
+    pub(crate) fn skip(&self, reader: &mut Reader<'_>)
+        ensures same { reader.new.doc.now ≡ reader.old.doc.now }
+        ensures stays { Stays self.now.state reader.old.doc.now reader.old.at reader.new.at }
     {
         match self.state {
-            State::Attribute => skip_name(doc, at),
-            State::Value(_) => skip_plain(doc, at),
-            _ => at,
+            State::Attribute => reader.skip(NameByte),
+            State::Value(_) => reader.skip(PlainByte),
+            _ => {}
         }
     }
 

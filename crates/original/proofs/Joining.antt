@@ -1,9 +1,15 @@
 -- Fields after fields are fields.
-use Rattle.std.proofs.Common.{◌≡◌, ℕ, Bool, true, false, cond, List, [], ◌∷◌, ◌++◌, sym, refl, ap, ◌∙◌, subst, append_assoc, append-nil}
+use Rattle.std.proofs.Common.{◌≡◌, ℕ, Bool, true, false, cond, List, [], ◌∷◌, ◌++◌, is_ok, Ok, Err, Result, sym, refl, ap, ◌∙◌, subst, append_assoc, append-nil}
+use Rattle.std.proofs.lemmas.Bool.{false≢true}
+use Rattle.std.proofs.lemmas.Result.{MatchResult-weaker}
 use Rattle.rules.specs.Texts.{joined}
 use Rattle.sinks.specs.Writers.{Writing, Written}
 use Rattle.sinks.proofs.Sending.{nothing_written, then, cut}
+use Rattle.sinks.specs.declared.writer.Refused.{Refused}
 use Rattle.original.specs.Joined.{joined_on, begun_by}
+use Rattle.original.specs.Totals.{Totals}
+use Rattle.original.specs.Wrote.{owed, Wrote, Same}
+use Rattle.original.specs.declared.fields.Fields.{Fields}
 
 -- the first of all fields has no '|' before it
 pub joined_is : (fs : List (List ℕ)) → joined_on false fs ≡ joined fs
@@ -28,7 +34,7 @@ joined_append b (x ∷ xs) ys =
 
 module _ {W : Type 0} {w : Writing W} {a c : W} (b : Bool) (xs ys : List (List ℕ)) where
   -- more fields, after some that were all written
-  more_fields : (x : Bool) {ok : Bool} {e : W} → Written w a (joined_on b xs) true c → x ≡ begun_by b xs → Written w c (joined_on x ys) ok e → Written w a (joined_on b (xs ++ ys)) ok e
+  pub more_fields : (x : Bool) {ok : Bool} {e : W} → Written w a (joined_on b xs) true c → x ≡ begun_by b xs → Written w c (joined_on x ys) ok e → Written w a (joined_on b (xs ++ ys)) ok e
   more_fields x {ok} {e} p q r =
       subst (λ l. Written w a l ok e) (sym (joined_append b xs ys)) (then p (subst (λ z. Written w c (joined_on z ys) ok e) q r))
 
@@ -78,3 +84,27 @@ module _ {W : Type 0} {w : Writing W} where
       no_more t =
           subst (λ l. Written w a (joined_on b l) false c') (append_assoc p.done ys zs ∙ ap (λ l. p.done ++ l) (sym e) ∙ p.parts)
           (cut_fields b (p.done ++ ys) zs (more_fields b p.done ys x p.text p.begun t))
+
+-- fields after fields, each told by how far the cadena is written
+module _ {W : Type 0} {w : Writing W} {a b c : Fields W} {fs ys : List (List ℕ)} {t : Totals} where
+  pub wrote_more : {r : Result (Unit {0}) Refused} → Wrote w a fs t (Ok tt) b → Wrote w b ys (owed b) r c → Wrote w a (fs ++ ys) t r c
+  wrote_more {r} p q = record {
+    text = more_fields a.begun fs ys b.begun p.text p.begun q.text;
+    begun = MatchResult-weaker r q.begun (λ x e. e ∙ ap (λ z. begun_by z ys) p.begun ∙ sym (begun_append a.begun fs ys)) (λ y k. k);
+    owes = MatchResult-weaker r q.owes (λ x e. e ∙ p.owes) (λ y k. k);
+  }
+
+-- fields of which a byte was refused, with those that were to follow
+pub wrote_cut : {W : Type 0} {w : Writing W} {a b : Fields W} {fs : List (List ℕ)} {t : Totals} {e : Refused} (ys : List (List ℕ)) (r : Result (Unit {0}) Refused) → is_ok r ≡ false → Wrote w a fs t (Err e) b → Wrote w a (fs ++ ys) t r b
+wrote_cut ys (Ok x) h p = absurd (false≢true (sym h))
+wrote_cut {a = a} {fs = fs} ys (Err f) h p = record { text = cut_fields a.begun fs ys p.text; begun = tt; owes = tt }
+
+-- what stays the same twice
+pub same_twice : {W : Type 0} {a b c : Fields W} → Same a b → Same b c → Same a c
+same_twice p q = record { document = q.document ∙ p.document; writer = q.writer ∙ p.writer }
+
+-- the first fields of a writer, under other names of the writer
+pub fields_written : {W : Type 0} {w : Writing W} {a x c y : W} {b ok : Bool} (fs : List (List ℕ)) → a ≡ x → b ≡ false → y ≡ c → Written w a (joined_on b fs) ok c → Written w x (joined fs) ok y
+fields_written {w = w} {a} {x} {c} {y} {b} {ok} fs e f h p =
+    subst (λ l. Written w x l ok y) (joined_is fs)
+    (subst (λ z. Written w z (joined_on false fs) ok y) e (subst (λ z. Written w a (joined_on false fs) ok z) (sym h) (subst (λ z. Written w a (joined_on z fs) ok c) f p)))

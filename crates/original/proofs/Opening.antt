@@ -1,6 +1,6 @@
 -- What the slots of a node give to the cadena.
-use Rattle.std.proofs.Common.{◌≡◌, ℕ, true, false, List, [], ◌∷◌, map, length, get_or, drop, None, Option, sym, ap, ◌∙◌, subst}
-use Rattle.std.proofs.lemmas.Bool.{cond-true, cond-false}
+use Rattle.std.proofs.Common.{◌≡◌, ℕ, false, List, [], ◌∷◌, map, length, get_or, drop, None, Option, sym, ap, ◌∙◌, subst, ⊎_elim}
+use Rattle.std.proofs.lemmas.Bool.{cond-false, cases_Bool}
 use Rattle.rules.specs.Located.{Given}
 use Rattle.rules.specs.Schema.{attributes, namespaces, is}
 use Rattle.rules.specs.Texts.{own_fields}
@@ -29,9 +29,12 @@ two_slots d gs (s ∷ []) h = absurd h.1
 two_slots d gs (s ∷ u ∷ ss) h = (sym (kept_text d Amount s) ∙ sym h.0.kept, sym (kept_text d Amount u) ∙ sym h.1.0.kept)
 
 -- the invoice's taxes leave their totals
-pub opened_taxes : (d : List ℕ) (t : Totals) (k : Node) (gs : List Given) (ss : List (Option Span)) (a b : Option Span) → is k Impuestos ≡ true → Filled d (rows k) gs ss → a ≡ get_or ss 0 None → b ≡ get_or ss 1 None →
+pub opened_taxes : (d : List ℕ) (t : Totals) (k : Node) (gs : List Given) (ss : List (Option Span)) (a b : Option Span) → k ≡ Impuestos → Filled d (rows k) gs ss → a ≡ get_or ss 0 None → b ≡ get_or ss 1 None →
     record { retained = text_in d a; transferred = text_in d b } ≡ opened_totals t k gs
-opened_taxes d t k gs ss a b x f p q =
-    let z : k ≡ Impuestos = is_same k Impuestos x in
+opened_taxes d t k gs ss a b z f p q =
     let (u, v) = two_slots d gs ss (subst (λ j. Filled d (rows j) gs ss) z f) in
-    (λ i. record { retained = (ap (text_in d) p ∙ u) i; transferred = (ap (text_in d) q ∙ v) i }) ∙ sym (cond-true _ _ _ x)
+    (λ i. record { retained = (ap (text_in d) p ∙ u) i; transferred = (ap (text_in d) q ∙ v) i }) ∙ ap (λ j. opened_totals t j gs) (sym z)
+
+-- a node that is not this one
+pub is_other : (k j : Node) → (k ≡ j → ⊥) → is k j ≡ false
+is_other k j n = ⊎_elim (λ t. absurd (n (is_same k j t))) (λ f. f) (cases_Bool (is k j))

@@ -1,8 +1,8 @@
 -- The walk through a document with the fields that are written on the way.
-use Rattle.std.proofs.Common.{◌≡◌, ℕ, ◌+◌, ◌<◌, true, false, List, [], ◌∷◌, ◌++◌, length, Some, None, Ok, Err, Option, sym, refl, ap, subst, arith}
+use Rattle.std.proofs.Common.{◌≡◌, ℕ, ◌+◌, ◌<◌, Bool, true, false, List, [], ◌∷◌, ◌++◌, length, Some, None, Ok, Err, Option, sym, refl, ap, ◌∙◌, subst, arith}
 use Rattle.rules.specs.Located.{Elements, none, element, elements_of}
 use Rattle.rules.specs.Markup.{Document}
-use Rattle.rules.specs.Texts.{fields, joined}
+use Rattle.rules.specs.Texts.{fields}
 use Rattle.rules.specs.Values.{placed, values_of}
 use Rattle.rules.specs.Grounds.{Standing, standing_here, standing_under, standing, NamesFault}
 use Rattle.rules.specs.declared.grounds.Fault.{Fault}
@@ -15,10 +15,11 @@ use Rattle.walk.specs.Events.{start, Occurrence, opened, closed, met_at, met_und
 use Rattle.walk.specs.Coming.{Comes, Gives, InOrder}
 use Rattle.walk.specs.declared.event.Event.{Event}
 use Rattle.walk.specs.declared.cursor.Walk.{Walk}
-use Rattle.original.specs.Totals.{SoundAt, met_fields, met_totals}
+use Rattle.original.specs.Joined.{joined_on}
+use Rattle.original.specs.Totals.{no_totals, SoundAt, met_fields, met_totals}
 use Rattle.original.specs.Wrote.{owed, Wrote, WellNamed}
-use Rattle.original.specs.declared.progress.Progress.{Progress}
-use Rattle.original.proofs.Joining.{joined_is, Partly, none_yet, same_left, some_more, no_more, all_done}
+use Rattle.original.specs.declared.fields.Fields.{Fields}
+use Rattle.original.proofs.Joining.{Partly, none_yet, same_left, told_as, some_more, no_more, all_done}
 use Rattle.original.proofs.Walked.{all_fields, fields_met}
 
 -- no fault in the names of a node's attributes
@@ -52,48 +53,53 @@ sound_at : (d : List ℕ) (o : Occurrence) → Found d o → NoFault o → Sound
 sound_at d (opened s) f n = record { tagged = f; after = n.0; named = n.1 }
 sound_at d (closed k) f n = tt
 
-module _ {W : Type 0} (w : Writing W) (d : List ℕ) (m : Document) (a : W) where
+module _ {W : Type 0} (w : Writing W) (d : List ℕ) (m : Document) (a : W) (b : Bool) where
   -- the fields of the values
   abbrev whole : List (List ℕ)
   whole = fields (λ k. true) (values_of (elements_of m))
 
   -- some fields are written, and those of what the walk is still to meet are left
-  abbrev pub Underway : Walk → Progress → W → Type 0
-  Underway v p c = (os : List Occurrence) × Comes v os × Each NoFault os × Partly w a false whole (all_fields (owed d p) os) p.begun c
+  abbrev pub Underway : Walk → Fields W → Type 0
+  Underway v p = (os : List Occurrence) × Comes v os × Each NoFault os × Partly w a b whole (all_fields (owed p) os) p.begun p.to.now
 
   -- at the start
-  pub starts : (v : Walk) → InOrder d m → WellNamed m → Comes v (met m) → Underway v (record { begun = false; retained = None; transferred = None }) a
-  starts v good named c = (met m, c, faultless_met m named, same_left none_yet (sym (fields_met d m good)))
+  pub starts : (v : Walk) (p : Fields W) → p.begun ≡ b → p.to.now ≡ a → owed p ≡ no_totals → InOrder d m → WellNamed m → Comes v (met m) → Underway v p
+  starts v p begun to owes good named c = (
+    met m,
+    c,
+    faultless_met m named,
+    told_as (same_left none_yet (sym (fields_met d m good) ∙ ap (λ t. all_fields t (met m)) (sym owes))) begun to,
+  )
 
-  module _ (v v' : Walk) (p : Progress) (c : W) (same : v.document.now ≡ d) (under : Underway v p c) where
+  module _ (v v' : Walk) (p p' : Fields W) (same : v.document.now ≡ d) (over : p.document.now ≡ d) (under : Underway v p) (e : Event) where
     -- one event more
-    pub goes_on : (e : Event) (p' : Progress) (c' : W) → ((os : List Occurrence) → Comes v os → Gives os v.document.now (Some e) v') →
-        ((o : Occurrence) → e ≡ told o → SoundAt d o → Wrote w d c p (met_fields (owed d p) o) (met_totals (owed d p) o) (Ok p') c') → Underway v' p' c'
-    goes_on e p' c' gives wrote = go under.0 under.2 under.3 (gives under.0 under.1)
+    pub goes_on : ((os : List Occurrence) → Comes v os → Gives os v.document.now (Some e) v') →
+        ((o : Occurrence) → e ≡ told o → SoundAt p.document.now o → Wrote w p (met_fields (owed p) o) (met_totals (owed p) o) (Ok tt) p') → Underway v' p'
+    goes_on gives wrote = go under.0 under.2 under.3 (gives under.0 under.1)
       where
-        go : (os : List Occurrence) → Each NoFault os → Partly w a false whole (all_fields (owed d p) os) p.begun c → Gives os v.document.now (Some e) v' → Underway v' p' c'
+        go : (os : List Occurrence) → Each NoFault os → Partly w a b whole (all_fields (owed p) os) p.begun p.to.now → Gives os v.document.now (Some e) v' → Underway v' p'
         go [] n q g = let x = g.0 in let z : ◌≡◌ {A = ℕ} 0 1 = cc in absurd (omega arith)
         go (o ∷ os) n q (g, f, come) =
             let one : e ≡ told o = cc in
-            let done = wrote o one (sound_at d o (subst (λ x. Found x o) same f) n.0) in
-            (os, come, n.1, same_left (some_more q (met_fields (owed d p) o) (all_fields (met_totals (owed d p) o) os) refl done.text done.begun) (ap (λ t. all_fields t os) (sym done.owes)))
+            let done = wrote o one (subst (λ x. SoundAt x o) (sym over) (sound_at d o (subst (λ x. Found x o) same f) n.0)) in
+            (os, come, n.1, same_left (some_more q (met_fields (owed p) o) (all_fields (met_totals (owed p) o) os) refl done.text done.begun) (ap (λ t. all_fields t os) (sym done.owes)))
 
     -- a byte is refused
-    pub stops : (e : Event) (r : Refused) (c' : W) → ((os : List Occurrence) → Comes v os → Gives os v.document.now (Some e) v') →
-        ((o : Occurrence) → e ≡ told o → SoundAt d o → Wrote w d c p (met_fields (owed d p) o) (met_totals (owed d p) o) (Err r) c') → Written w a (joined whole) false c'
-    stops e r c' gives wrote = go under.0 under.2 under.3 (gives under.0 under.1)
+    pub stops : (r : Refused) → ((os : List Occurrence) → Comes v os → Gives os v.document.now (Some e) v') →
+        ((o : Occurrence) → e ≡ told o → SoundAt p.document.now o → Wrote w p (met_fields (owed p) o) (met_totals (owed p) o) (Err r) p') → Written w a (joined_on b whole) false p'.to.now
+    stops r gives wrote = go under.0 under.2 under.3 (gives under.0 under.1)
       where
-        go : (os : List Occurrence) → Each NoFault os → Partly w a false whole (all_fields (owed d p) os) p.begun c → Gives os v.document.now (Some e) v' → Written w a (joined whole) false c'
+        go : (os : List Occurrence) → Each NoFault os → Partly w a b whole (all_fields (owed p) os) p.begun p.to.now → Gives os v.document.now (Some e) v' → Written w a (joined_on b whole) false p'.to.now
         go [] n q g = let x = g.0 in let z : ◌≡◌ {A = ℕ} 0 1 = cc in absurd (omega arith)
         go (o ∷ os) n q (g, f, come) =
             let one : e ≡ told o = cc in
-            let done = wrote o one (sound_at d o (subst (λ x. Found x o) same f) n.0) in
-            subst (λ l. Written w a l false c') (joined_is whole) (no_more q (met_fields (owed d p) o) (all_fields (met_totals (owed d p) o) os) refl done.text)
+            let done = wrote o one (subst (λ x. SoundAt x o) (sym over) (sound_at d o (subst (λ x. Found x o) same f) n.0)) in
+            no_more q (met_fields (owed p) o) (all_fields (met_totals (owed p) o) os) refl done.text
 
-    -- the document ends
-    pub ends : ((os : List Occurrence) → Comes v os → Gives os v.document.now None v') → Written w a (joined whole) true c
-    ends gives = go under.0 under.3 (gives under.0 under.1)
-      where
-        go : (os : List Occurrence) → Partly w a false whole (all_fields (owed d p) os) p.begun c → Gives os v.document.now None v' → Written w a (joined whole) true c
-        go [] q g = subst (λ l. Written w a l true c) (joined_is whole) (all_done q refl).0
-        go (o ∷ os) q (g, f, come) = let z : ◌≡◌ {A = ℕ} 0 1 = cc in absurd (omega arith)
+  -- the document ends
+  pub ends : (v v' : Walk) (p : Fields W) → Underway v p → ((os : List Occurrence) → Comes v os → Gives os v.document.now None v') → Written w a (joined_on b whole) true p.to.now
+  ends v v' p under gives = go under.0 under.3 (gives under.0 under.1)
+    where
+      go : (os : List Occurrence) → Partly w a b whole (all_fields (owed p) os) p.begun p.to.now → Gives os v.document.now None v' → Written w a (joined_on b whole) true p.to.now
+      go [] q g = (all_done q refl).0
+      go (o ∷ os) q (g, f, come) = let z : ◌≡◌ {A = ℕ} 0 1 = cc in absurd (omega arith)

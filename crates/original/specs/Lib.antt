@@ -1,3 +1,4 @@
 pub mod Joined
 pub mod Totals
 pub mod Wrote
+pub mod Texts

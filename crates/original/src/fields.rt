@@ -1,17 +1,24 @@
 // The fields of a cadena, one after another with '|' between them.
-ghost use Rattle.std.specs.Prelude.{◌≡◌, true, [], ◌∷◌, ◌++◌, map, length, drop, is_ok, if◌then◌else◌};
+ghost use Rattle.std.specs.Prelude.{◌≡◌, true, false, [], ◌∷◌, ◌++◌, None, is_ok, if◌then◌else◌};
 ghost use Rattle.rules.specs.Kept.{resolved, kept};
-ghost use Rattle.rules.specs.Schema.{attributes as attributes_of, namespaces as namespaces_of};
-ghost use Rattle.rules.specs.Texts.{field_if, own_fields};
+ghost use Rattle.rules.specs.Texts.{field_if};
 ghost use Rattle.sinks.specs.Writers.{Written};
-ghost use Rattle.original.specs.Joined.{text_in, Fields};
+ghost use Rattle.original.specs.Joined.{text_in};
+ghost use Rattle.original.specs.Wrote.{owed, Wrote, Same};
 
 use kinds::Kept;
-use reader::Slots;
-use rules::Node;
-use schema::{rows, same_node};
 use sinks::{Refused, Writer};
 use tags::Span;
+
+/// The fields of a document's cadena as they are written, with the places of the totals of the invoice's taxes that are still to be written.
+#[derive(Drop)]
+pub struct Fields<'a, 'd, W> {
+    pub to: &'a mut W,
+    pub document: &'d [u8],
+    pub begun: bool,
+    pub retained: Option<Span>,
+    pub transferred: Option<Span>,
+}
 
 /// Writes the kept form of a raw value.
 fn write_kept<W: Writer>(to: &mut W, raw: &[u8]) -> Result<(), Refused>
@@ -33,50 +40,35 @@ fn write_field<W: Writer>(to: &mut W, begun: bool, raw: &[u8]) -> Result<(), Ref
     write_kept(to, raw)
 }
 
-/// Writes the value at a span as a field, if there is one, and tells whether a field is written by then.
-pub fn write_slot<W: Writer>(
-    to: &mut W,
-    begun: bool,
-    document: &[u8],
-    slot: Option<Span>,
-) -> Result<bool, Refused>
-    ensures { Fields W.Writer.writing to.old begun (field_if true (text_in document.now slot)) result to.new }
-{
-    match slot {
-        Some(span) => {
-            write_field(to, begun, span.of(document))?;
-            Ok(true)
-        }
-        None => Ok(begun),
-    }
-}
-
-/// How many rows of a node fix its namespaces, which stand before its other rows.
-fn namespaces(node: Node) -> usize
-    ensures { result ≡ length (namespaces_of node) }
-{
-    if same_node(node, Node::Comprobante) {
-        3
-    } else {
-        0
-    }
-}
-
-/// Writes the attributes of a node that are part of the cadena as fields, in table order, and tells whether a field is written by then.
-pub fn write_own<W: Writer>(
-    to: &mut W,
-    mut begun: bool,
-    document: &[u8],
-    node: Node,
-    slots: &Slots,
-) -> Result<bool, Refused>
-    ensures { Fields W.Writer.writing to.old begun (own_fields (attributes_of node) (map (text_in document.now) (drop (length (namespaces_of node)) slots.now.spans))) result to.new }
-{
-    let rows = rows(node);
-    for row in namespaces(node)..rows.len() {
-        if rows[row].in_cadena {
-            begun = write_slot(to, begun, document, slots.get(row))?;
+impl<'a, 'd, W: Writer> Fields<'a, 'd, W> {
+    /// The fields of a document's cadena, of which none is written.
+    pub fn new(document: &'d [u8], to: &'a mut W) -> Fields<'a, 'd, W>
+        ensures document { result.document.now ≡ document.now }
+        ensures to { result.to.now ≡ to.old }
+        ensures lent { result.to.ghost_name ≡ to.entry.ghost_name }
+        ensures begun { result.begun ≡ false }
+        ensures retained { result.retained ≡ None }
+        ensures transferred { result.transferred ≡ None }
+    {
+        Fields {
+            to,
+            document,
+            begun: false,
+            retained: None,
+            transferred: None,
         }
     }
-    Ok(begun)
+
+    /// Writes the raw value at a place as a field, if there is one.
+    pub fn field(&mut self, place: Option<Span>) -> Result<(), Refused>
+        ensures wrote { Wrote W.Writer.writing self.old (field_if true (text_in self.old.document.now place)) (owed self.old) result self.new }
+        ensures same { Same self.old self.new }
+    {
+        let Some(place) = place else {
+            return Ok(());
+        };
+        write_field(self.to, self.begun, place.of(self.document))?;
+        self.begun = true;
+        Ok(())
+    }
 }

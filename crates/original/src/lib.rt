@@ -4,8 +4,7 @@
 mod cadena;
 mod fields;
 mod nodes;
-mod progress;
 mod sending;
 
-pub use cadena::write;
+pub use cadena::{Cadena, write};
 pub use sending::send_cadena;

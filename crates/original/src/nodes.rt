@@ -1,95 +1,129 @@
 // What each node of a document gives to its cadena.
-ghost use Rattle.std.specs.Prelude.{◌≡◌, List};
+ghost use Rattle.std.specs.Prelude.{◌≡◌, true, List, map, length, drop, is_ok};
 ghost use Rattle.rules.specs.Grounds.{rows as rows_of};
-ghost use Rattle.rules.specs.Located.{Given};
+ghost use Rattle.rules.specs.Located.{Given, elements_of};
+ghost use Rattle.rules.specs.Markup.{Document, Marks};
+ghost use Rattle.rules.specs.Schema.{attributes as attributes_of, namespaces as namespaces_of};
+ghost use Rattle.rules.specs.Texts.{fields as fields_of, field_if, own_fields};
+ghost use Rattle.rules.specs.Values.{values_of};
 ghost use Rattle.reader.specs.Slots.{Filled};
+ghost use Rattle.sinks.specs.Writers.{Written};
+ghost use Rattle.walk.specs.Coming.{InOrder};
 ghost use Rattle.walk.specs.Events.{Occurrence, told};
-ghost use Rattle.original.specs.Totals.{Sound, SoundAt, opened_fields, opened_totals, closed_fields, closed_totals, met_fields, met_totals};
-ghost use Rattle.original.specs.Wrote.{owed, Wrote};
+ghost use Rattle.original.specs.Joined.{joined_on, text_in};
+ghost use Rattle.original.specs.Totals.{no_totals, Sound, SoundAt, opened_fields, opened_totals, closed_fields, closed_totals, met_fields, met_totals};
+ghost use Rattle.original.specs.Wrote.{owed, Wrote, Same, WellNamed};
 
-use crate::fields::{write_own, write_slot};
-use crate::progress::Progress;
+use crate::fields::Fields;
 use reader::{Slots, attributes};
 use rules::Node;
-use schema::same_node;
+use schema::row_numbers::impuestos;
+use schema::{Row, rows};
 use sinks::{Refused, Writer};
-use walk::{Event, Opened};
+use tags::Span;
+use walk::{Event, Opened, Walk};
+
+/// How many rows of a node fix its namespaces, which stand before its other rows.
+fn namespaces(node: Node) -> usize
+    ensures { result ≡ length (namespaces_of node) }
+{
+    match node {
+        Node::Comprobante => 3,
+        _ => 0,
+    }
+}
 
 /// Where the attributes of a node stand; nowhere, if there is a fault in their names.
-fn slots_of(document: &[u8], found: Opened) -> Slots
-    ensures { (gs : List Given) → Sound document.now found.node found.place found.attributes gs → Filled document.now (rows_of found.node) gs result.spans }
+fn slots_of<'d>(document: &'d [u8], found: &Opened) -> Slots<'d>
+    ensures { (gs : List Given) → Sound document.now found.now.node found.now.place found.now.attributes gs → Filled document.now (rows_of found.now.node) gs result.spans }
 {
-    match attributes(document, found.place, found.attributes, found.node) {
+    match attributes(document, found) {
         Ok(slots) => slots,
-        Err(_) => Slots { spans: [None; 22] },
+        Err(_) => Slots {
+            document,
+            spans: [None; 22],
+        },
     }
 }
 
-/// Writes what a node gives where it is opened. The totals of the invoice's taxes are only noted, and that of the retained taxes is written before the transferred ones.
-fn write_opened<W: Writer>(
-    to: &mut W,
-    progress: Progress,
-    document: &[u8],
-    found: Opened,
-) -> Result<Progress, Refused>
-    ensures { (gs : List Given) → Sound document.now found.node found.place found.attributes gs → Wrote W.Writer.writing document.now to.old progress (opened_fields (owed document.now progress) found.node gs) (opened_totals (owed document.now progress) found.node gs) result to.new }
-{
-    let slots = slots_of(document, found);
-    if same_node(found.node, Node::Impuestos) {
-        return Ok(Progress {
-            begun: progress.begun,
-            retained: slots.get(0),
-            transferred: slots.get(1),
-        });
+impl<'a, 'd, W: Writer> Fields<'a, 'd, W> {
+    /// Writes what the slot of a row holds, if the row is part of the cadena.
+    fn row(&mut self, row: Row, slot: Option<Span>) -> Result<(), Refused>
+        ensures wrote { Wrote W.Writer.writing self.old (field_if row.in_cadena (text_in self.old.document.now slot)) (owed self.old) result self.new }
+        ensures same { Same self.old self.new }
+    {
+        if row.in_cadena {
+            return self.field(slot);
+        }
+        Ok(())
     }
-    if same_node(found.node, Node::Traslados) {
-        let begun = write_slot(to, progress.begun, document, progress.retained)?;
-        return Ok(Progress {
-            begun,
-            retained: None,
-            transferred: progress.transferred,
-        });
-    }
-    let begun = write_own(to, progress.begun, document, found.node, &slots)?;
-    Ok(Progress {
-        begun,
-        retained: progress.retained,
-        transferred: progress.transferred,
-    })
-}
 
-/// Writes what a node gives where it is closed: the invoice's taxes give the totals that are not written yet.
-fn write_closed<W: Writer>(
-    to: &mut W,
-    progress: Progress,
-    document: &[u8],
-    node: Node,
-) -> Result<Progress, Refused>
-    ensures { Wrote W.Writer.writing document.now to.old progress (closed_fields (owed document.now progress) node) (closed_totals (owed document.now progress) node) result to.new }
-{
-    if !same_node(node, Node::Impuestos) {
-        return Ok(progress);
+    /// Writes the attributes of a node that are part of the cadena, in table order.
+    fn own(&mut self, node: Node, slots: &Slots) -> Result<(), Refused>
+        ensures wrote { Wrote W.Writer.writing self.old (own_fields (attributes_of node) (map (text_in self.old.document.now) (drop (length (namespaces_of node)) slots.now.spans))) (owed self.old) result self.new }
+        ensures same { Same self.old self.new }
+    {
+        for (row, slot) in rows(node).iter().zip(&slots.spans).skip(namespaces(node)) {
+            self.row(*row, *slot)?;
+        }
+        Ok(())
     }
-    let begun = write_slot(to, progress.begun, document, progress.retained)?;
-    let begun = write_slot(to, begun, document, progress.transferred)?;
-    Ok(Progress {
-        begun,
-        retained: None,
-        transferred: None,
-    })
-}
 
-/// Writes what a node gives where it is opened or closed, and tells how far the cadena is written then.
-pub fn write_event<W: Writer>(
-    to: &mut W,
-    progress: Progress,
-    document: &[u8],
-    event: Event,
-) -> Result<Progress, Refused>
-    ensures { (o : Occurrence) → event ≡ told o → SoundAt document.now o → Wrote W.Writer.writing document.now to.old progress (met_fields (owed document.now progress) o) (met_totals (owed document.now progress) o) result to.new }
-{
-    match event {
-        Event::Opened(found) => write_opened(to, progress, document, found),
-        Event::Closed(node) => write_closed(to, progress, document, node),
+    /// Writes what a node gives where it is opened. The totals of the invoice's taxes are only noted, and that of the retained taxes is written before the transferred ones.
+    fn opened(&mut self, found: Opened) -> Result<(), Refused>
+        ensures wrote { (gs : List Given) → Sound self.old.document.now found.node found.place found.attributes gs → Wrote W.Writer.writing self.old (opened_fields (owed self.old) found.node gs) (opened_totals (owed self.old) found.node gs) result self.new }
+        ensures same { Same self.old self.new }
+    {
+        let slots = slots_of(self.document, &found);
+        match found.node {
+            Node::Impuestos => {
+                self.retained = slots.span(impuestos::TOTAL_RETENIDOS);
+                self.transferred = slots.span(impuestos::TOTAL_TRASLADADOS);
+                Ok(())
+            }
+            Node::Traslados => {
+                let retained = self.retained.take();
+                self.field(retained)
+            }
+            _ => self.own(found.node, &slots),
+        }
+    }
+
+    /// Writes what a node gives where it is closed: the invoice's taxes give the totals that are not written yet.
+    fn closed(&mut self, node: Node) -> Result<(), Refused>
+        ensures wrote { Wrote W.Writer.writing self.old (closed_fields (owed self.old) node) (closed_totals (owed self.old) node) result self.new }
+        ensures same { Same self.old self.new }
+    {
+        match node {
+            Node::Impuestos => {
+                let retained = self.retained.take();
+                let transferred = self.transferred.take();
+                self.field(retained)?;
+                self.field(transferred)
+            }
+            _ => Ok(()),
+        }
+    }
+
+    /// Writes what a node gives where it is opened or closed.
+    fn event(&mut self, event: Event) -> Result<(), Refused>
+        ensures wrote { (o : Occurrence) → event ≡ told o → SoundAt self.old.document.now o → Wrote W.Writer.writing self.old (met_fields (owed self.old) o) (met_totals (owed self.old) o) result self.new }
+        ensures same { Same self.old self.new }
+    {
+        match event {
+            Event::Opened(found) => self.opened(found),
+            Event::Closed(node) => self.closed(node),
+        }
+    }
+
+    /// Writes the fields of the whole document.
+    pub fn all(&mut self) -> Result<(), Refused>
+        ensures wrote { (m : Document) → Marks self.old.document.now m → InOrder self.old.document.now m → WellNamed m → owed self.old ≡ no_totals → Written W.Writer.writing self.old.to.now (joined_on self.old.begun (fields_of (λ k. true) (values_of (elements_of m)))) (is_ok result) self.new.to.now }
+        ensures same { Same self.old self.new }
+    {
+        for event in Walk::new(self.document) {
+            self.event(event)?;
+        }
+        Ok(())
     }
 }

@@ -1,5 +1,5 @@
 -- One turn of the walk through the elements under a node.
-use Rattle.std.proofs.Common.{◌≡◌, ℕ, zero, suc, ◌+◌, ◌-◌, ◌<◌, true, false, ◌&&◌, ◌⊎◌, List, [], ◌∷◌, ◌++◌, length, get_or, take, drop, Some, None, Ok, Err, Option, sym, refl, ap, ◌∙◌, inl, inr, append_assoc, arith, length-append}
+use Rattle.std.proofs.Common.{◌≡◌, ℕ, zero, suc, ◌+◌, ◌-◌, ◌<◌, true, false, ◌&&◌, ◌⊎◌, List, [], ◌∷◌, ◌++◌, length, get_or, take, drop, Some, None, Ok, Err, Option, Result, sym, refl, ap, ◌∙◌, inl, inr, append_assoc, arith, length-append}
 use Rattle.std.proofs.lemmas.List.{take_at}
 use Rattle.std.proofs.lemmas.Bool.{and_parts, false≢true, both_ways, eqb-true, cond-true, cond-false}
 use Rattle.std.proofs.lemmas.Bool.Decides.{nat_tests}
@@ -14,7 +14,10 @@ use Rattle.theory.specs.On.{attributes_on, tag_on, content_on, stops, closes, en
 use Rattle.theory.proofs.Compose.{or_else}
 use Rattle.theory.proofs.Lists.{all_append, all_with}
 use Rattle.theory.proofs.Unique.{attributes_on_is, content_on_is}
-use Rattle.tags.specs.Scan.{front, other, through, ended}
+use Rattle.tags.specs.Scan.{through, ended}
+use Rattle.std.specs.List.{prefix_len}
+use Rattle.std.specs.Option.{ok_or}
+use Rattle.byte_classes.specs.Runs.{other}
 use Rattle.tags.proofs.Fronts.{past, scanned, passed, lies_less, lies_head, lies_next}
 use Rattle.tags.proofs.Parts.{blanks_stop, no_slash}
 use Rattle.reader.specs.Tree.{step, finished, node_at, follow, tree_first, answer}
@@ -50,7 +53,7 @@ tag_open [] r h k = false≢true h
 tag_open (b ∷ bs) r h k = no_slash b (and_parts _ _ h).0 (eqb-true b 47 k)
 
 -- the scans of one start tag
-tag_read : (d : List ℕ) (place stop close : ℕ) (t : Tag) (z : List ℕ) → stop ≡ place + 1 + front name_byte (drop (place + 1) d) → Reads d stop close → tag_ok t ≡ true → closes z ≡ true → drop place d ≡ tag_on t z →
+tag_read : (d : List ℕ) (place stop close : ℕ) (t : Tag) (z : List ℕ) → stop ≡ place + 1 + prefix_len name_byte (drop (place + 1) d) → Reads d stop close → tag_ok t ≡ true → closes z ≡ true → drop place d ≡ tag_on t z →
     (take (stop - (place + 1)) (drop (place + 1) d) ≡ t.name) × (close ≡ place + length (tag_text t)) × (drop close d ≡ z)
 tag_read d place stop close t z hs reads ok hz e =
     let (on, o₁) = and_parts _ _ ok in
@@ -101,7 +104,7 @@ name_other b h = grind (arith, nat_tests)
 blank_other : (b : ℕ) → blank b ≡ true → other 62 b ≡ true
 blank_other b h = grind (arith, nat_tests)
 
-module _ (d : List ℕ) (i place stop close : ℕ) (rest : List ℕ) (hp : place ≡ i + front blank (drop i d)) where
+module _ (d : List ℕ) (i place stop close : ℕ) (rest : List ℕ) (hp : place ≡ i + prefix_len blank (drop i d)) where
   -- no element begins: the content ends
   pub closed : (n : ℕ) (c : Content) → content_ok n c ≡ true → ends rest ≡ true → drop i d ≡ content_on c rest → ended (drop place d) ≡ true → (located i c ≡ none) × (place ≡ i + length (text c))
   closed n (end b) h r e k = (refl, (scanned blank d b rest i place hp h (ends_stop rest r) e).0)
@@ -116,7 +119,7 @@ module _ (d : List ℕ) (i place stop close : ℕ) (rest : List ℕ) (hp : place
       let (p, f) = scanned blank d b _ i place hp u refl e in
       absurd (tag_open t.name _ (and_parts _ _ (and_parts _ _ h₁).0).0 (ap ended (sym f) ∙ k))
 
-  pub opened : (n : ℕ) (c : Content) → stop ≡ place + 1 + front name_byte (drop (place + 1) d) → Reads d stop close → content_ok n c ≡ true → ends rest ≡ true → drop i d ≡ content_on c rest → ended (drop place d) ≡ false → Opened d n i place stop close c rest
+  pub opened : (n : ℕ) (c : Content) → stop ≡ place + 1 + prefix_len name_byte (drop (place + 1) d) → Reads d stop close → content_ok n c ≡ true → ends rest ≡ true → drop i d ≡ content_on c rest → ended (drop place d) ≡ false → Opened d n i place stop close c rest
   opened n (end b) hs reads h r e k = let (p, f) = scanned blank d b rest i place hp h (ends_stop rest r) e in absurd (both_ways (ended rest) (ap ended (sym f) ∙ k) (ends_close rest r))
   opened zero (empty b t after) hs reads h r e k = absurd (false≢true h)
   opened (suc n) (empty b t after) hs reads h r e k =
@@ -171,6 +174,13 @@ module _ (d : List ℕ) (i place stop close : ℕ) (rest : List ℕ) (hp : place
           long = omega (arith, six_length b (tag_text t) (62 ∷ text inside) (60 ∷ 47 ∷ t.name) c (62 ∷ text after));
         });
       }
+
+-- a child that no row takes
+pub misplaced : {f : Fault} {place : ℕ} {o : Option Progress} → Err f ≡ ok_or o (Misplaced place) → o ≡ None → f ≡ Misplaced place
+misplaced {f} {place} {o} h e = fault_is f (Misplaced place) (h ∙ ap (λ x. ok_or x (Misplaced place)) e)
+  where
+    fault_is : (f g : Fault) → ◌≡◌ {A = Result Progress Fault} (Err f) (Err g) → f ≡ g
+    fault_is f g e = cc
 
 -- what a turn adds to the answer
 module _ (p : Option Node) (i n E : ℕ) (es : Elements) (o : Option Fault) (h : o ≡ tree_first p i n E es) where

@@ -35,11 +35,6 @@ refusal rs s i (a ∷ l) =
     cond (taken (row_at rs 0 a.name) s) (Some (name_span i a).start)
     (refusal rs (with_span (row_at rs 0 a.name) s (value_span i a)) (i + length (attribute_text a)) l)
 
--- a place that was found before, or this one if it is refused
-abbrev pub or_here : Option ℕ → Bool → ℕ → Option ℕ
-or_here (Some p) b x = Some p
-or_here None b x = cond b (Some x) None
-
 -- some required row, counted from i, has an empty slot
 abbrev pub lacks : List Row → ℕ → List (Option Span) → Bool
 lacks [] i s = false

@@ -1,5 +1,6 @@
 -- What the slots of a node hold of the attributes that its tag gives.
 use Rattle.std.specs.Prelude.{◌≡◌, ℕ, ◌<◌, ◌≤◌, cond, List, [], ◌∷◌, length, Some, None, Option}
+use Rattle.std.specs.Borrow.{Bor}
 use Rattle.rules.specs.Bytes.{same}
 use Rattle.rules.specs.Kept.{resolved}
 use Rattle.rules.specs.Kinds.{keep}
@@ -34,6 +35,16 @@ Shown d None None = Unit {0}
 Shown d None (Some s) = ⊥
 Shown d (Some g) None = ⊥
 Shown d (Some g) (Some s) = Shows d g s
+
+-- the raw bytes that a slot's span holds
+abbrev pub raw_in : List ℕ → Option Span → Option (List ℕ)
+raw_in d None = None
+raw_in d (Some s) = Some (part d s)
+
+-- the bytes that are lent, if any are
+abbrev pub lent : Option (Bor (List ℕ)) → Option (List ℕ)
+lent None = None
+lent (Some r) = Some r.now
 
 -- the kept form of the raw value that a slot's span holds
 abbrev pub kept_in : List ℕ → Kind → Option Span → Option (List ℕ)

@@ -3,6 +3,8 @@
 
 mod names;
 mod nodes;
+#[cfg(test)]
+mod tests;
 
 pub use names::{Slots, attributes};
 pub use nodes::tree;

@@ -2,48 +2,57 @@
 ghost use Rattle.std.specs.Prelude.{◌≡◌, ℕ, ◌<◌, ◌≤◌, Bool, true, List, ◌++◌, length, drop, replicate, IfSome, IfOk, if◌then◌else◌, Some, None, slice_index_or};
 ghost use Rattle.rules.specs.Bytes.{blank, all};
 ghost use Rattle.rules.specs.Faults.{Judgement, fault_of};
-ghost use Rattle.rules.specs.declared.grounds.Fault.TheVariants.{AttributeMissing};
+ghost use Rattle.rules.specs.declared.grounds.Fault.TheVariants.{AttributeRefused};
 ghost use Rattle.rules.specs.Grounds.{rows as rows_of, NamesFault};
 ghost use Rattle.rules.specs.Located.{givens};
 ghost use Rattle.rules.specs.Markup.{Attribute, attribute_ok};
 ghost use Rattle.theory.specs.On.{attributes_on, closes};
-ghost use Rattle.reader.specs.Names.{row_at, taken as taken_in, with_span, filled, refusal, or_here as or_here_of, lacks, refusing};
-ghost use Rattle.reader.specs.Slots.{standing_of, Filled};
+ghost use Rattle.reader.specs.Names.{row_at, taken, with_span, filled, refusal, lacks, refusing};
+ghost use Rattle.reader.specs.Slots.{standing_of, raw_in, lent, Filled};
 
 use rules::{Fault, Node};
 use schema::rows;
-use tags::{Span, attribute};
+use tags::{AttributeSpan, Attributes, Span};
+use walk::Opened;
 
-/// Where the raw values of a node's attributes stand, one slot for each row of the node's table.
+/// Where the raw values of a node's attributes stand in a document, one slot for each row of the node's table.
 #[derive(Clone, Copy)]
-pub struct Slots {
+pub struct Slots<'a> {
+    pub document: &'a [u8],
     pub spans: [Option<Span>; 22],
 }
 
-impl Slots {
+impl<'a> Slots<'a> {
     /// The span in the slot of a row; none where the slot is empty, and past the slots.
-    pub fn get(&self, row: usize) -> Option<Span>
-        ensures slot { row < 22 → result ≡ slice_index_or self.now.spans row None }
+    pub fn span(&self, row: usize) -> Option<Span>
+        ensures slot { result ≡ slice_index_or self.now.spans row None }
         ensures past { 22 ≤ row → result ≡ None }
     {
-        if row < 22 { self.spans[row] } else { None }
+        *self.spans.get(row)?
     }
 
-    /// Puts a span into the slot of a row, and tells whether it could not: there is no row, or its slot is full.
-    fn put(&mut self, row: Option<usize>, value: Span) -> bool
+    /// The raw value whose span is in the slot of a row.
+    pub fn raw(&self, row: usize) -> Option<&'a [u8]>
+        ensures { lent result ≡ raw_in self.now.document.now (slice_index_or self.now.spans row None) }
+    {
+        Some(self.span(row)?.of(self.document))
+    }
+
+    /// Puts the value of an attribute into the slot of its row; it is refused where there is no row, or its slot is full.
+    fn put(&mut self, row: Option<usize>, attribute: AttributeSpan) -> Result<(), Fault>
         requires { IfSome row (λ j. j < 22) }
-        ensures after { self.new.spans ≡ with_span row self.old.spans value }
-        ensures taken { result ≡ taken_in row self.old.spans }
+        ensures same { self.new.document.now ≡ self.old.document.now }
+        ensures after { self.new.spans ≡ with_span row self.old.spans attribute.value }
+        ensures refused { fault_of result ≡ (if taken row self.old.spans then Some (AttributeRefused attribute.name.start) else None) }
     {
         match row {
-            Some(j) => {
-                if self.spans[j].is_some() {
-                    return true;
-                }
-                self.spans[j] = Some(value);
-                false
+            Some(row) if self.spans[row].is_none() => {
+                self.spans[row] = Some(attribute.value);
+                Ok(())
             }
-            None => true,
+            _ => Err(Fault::AttributeRefused {
+                place: attribute.name.start,
+            }),
         }
     }
 }
@@ -53,46 +62,29 @@ fn row_of(node: Node, name: &[u8]) -> Option<usize>
     ensures is { result ≡ row_at (rows_of node) 0 name.now }
     ensures within { IfSome result (λ j. j < 22) }
 {
-    let rows = rows(node);
-    let mut row = 0;
-    while row < rows.len() {
-        if rows[row].name == name {
-            return Some(row);
-        }
-        row += 1;
-    }
-    None
+    rows(node).iter().position(|row| row.name == name)
 }
 
-/// A place that was found before, or this one if it is refused.
-fn or_here(before: Option<usize>, refused: bool, place: usize) -> Option<usize>
-    ensures { result ≡ or_here_of before refused place }
-{
-    match before {
-        Some(first) => Some(first),
-        None => { if refused { Some(place) } else { None } }
-    }
-}
-
-/// The slots that one pass over a tag fills, and where the first attribute stands that no row names or that was given before.
+/// The slots that one pass over a tag fills, and the first attribute that no row names or that was given before.
 #[derive(Clone, Copy)]
-pub struct Collected {
-    pub slots: Slots,
-    pub refused: Option<usize>,
+pub struct Collected<'a> {
+    pub slots: Slots<'a>,
+    pub refused: Result<(), Fault>,
 }
 
-/// Goes through the attributes of the tag of a node, which begin at `at`.
-fn collect(document: &[u8], at: usize, node: Node) -> Collected
-    ensures { (l : List Attribute) (g z : List ℕ) → all attribute_ok l ≡ true → all blank g ≡ true → closes z ≡ true → drop at document.now ≡ attributes_on l (g ++ z) → (result.slots.spans ≡ filled (rows_of node) (replicate 22 None) at l) × (result.refused ≡ refusal (rows_of node) (replicate 22 None) at l) }
+/// Goes through the attributes of the tag of a node that is opened.
+fn collect<'a>(document: &'a [u8], opened: &Opened) -> Collected<'a>
+    ensures document { result.slots.document.now ≡ document.now }
+    ensures pass { (l : List Attribute) (g z : List ℕ) → all attribute_ok l ≡ true → all blank g ≡ true → closes z ≡ true → drop opened.now.attributes document.now ≡ attributes_on l (g ++ z) → (result.slots.spans ≡ filled (rows_of opened.now.node) (replicate 22 None) opened.now.attributes l) × (fault_of result.refused ≡ refusing (refusal (rows_of opened.now.node) (replicate 22 None) opened.now.attributes l)) }
 {
-    let mut slots = Slots { spans: [None; 22] };
-    let mut refused = None;
-    let mut i = at;
-    while let Some(a) = attribute(document, i) {
-        let row = row_of(node, a.name.of(document));
-        let full = slots.put(row, a.value);
-        refused = or_here(refused, full, a.name.start);
-        i = a.value.end + 1;
+    let mut slots = Slots {
+        document,
+        spans: [None; 22],
+    };
+    let mut refused = Ok(());
+    for a in Attributes::new(document, opened.attributes) {
+        let row = row_of(opened.node, a.name.of(document));
+        refused = refused.and(slots.put(row, a));
     }
     Collected { slots, refused }
 }
@@ -101,39 +93,24 @@ fn collect(document: &[u8], at: usize, node: Node) -> Collected
 fn missing(node: Node, slots: &Slots) -> bool
     ensures { result ≡ lacks (rows_of node) 0 slots.now.spans }
 {
-    let rows = rows(node);
-    let mut row = 0;
-    while row < rows.len() {
-        if rows[row].required && slots.spans[row].is_none() {
-            return true;
-        }
-        row += 1;
-    }
-    false
+    rows(node)
+        .iter()
+        .zip(&slots.spans)
+        .any(|(row, slot)| row.required && slot.is_none())
 }
 
-/// The first fault of one tag's names: a missing attribute stands at the node's own place, before any that is refused.
-fn first_fault(lacking: bool, refused: Option<usize>, node_at: usize) -> Option<Fault>
-    ensures { result ≡ (if lacking then Some (AttributeMissing node_at) else refusing refused) }
+/// Judges the names of the attributes of a node that is opened, and gives, where they are lawful, a slot for each row. A missing attribute stands at the node's own place, before any that is refused.
+pub fn attributes<'a>(document: &'a [u8], opened: &Opened) -> Result<Slots<'a>, Fault>
+    ensures judges { (l : List Attribute) (g z : List ℕ) → all attribute_ok l ≡ true → all blank g ≡ true → closes z ≡ true → drop opened.now.attributes document.now ≡ attributes_on l (g ++ z) → opened.now.place < opened.now.attributes → Judgement (NamesFault (standing_of opened.now.node opened.now.place (givens opened.now.attributes l))) (fault_of result) }
+    ensures holds { (l : List Attribute) (g z : List ℕ) → all attribute_ok l ≡ true → all blank g ≡ true → closes z ≡ true → drop opened.now.attributes document.now ≡ attributes_on l (g ++ z) → IfOk result (λ s. Filled document.now (rows_of opened.now.node) (givens opened.now.attributes l) s.spans) }
+    ensures document { IfOk result (λ s. s.document.now ≡ document.now) }
 {
-    if lacking {
-        return Some(Fault::AttributeMissing { place: node_at });
+    let collected = collect(document, opened);
+    if missing(opened.node, &collected.slots) {
+        return Err(Fault::AttributeMissing {
+            place: opened.place,
+        });
     }
-    match refused {
-        Some(place) => Some(Fault::AttributeRefused { place }),
-        None => None,
-    }
-}
-
-/// Judges the names of the attributes of one tag, which begin at `at`, for a node whose `<` stands at `node_at`; and gives, where they are lawful, a slot for each row.
-pub fn attributes(document: &[u8], node_at: usize, at: usize, node: Node) -> Result<Slots, Fault>
-    ensures judges { (l : List Attribute) (g z : List ℕ) → all attribute_ok l ≡ true → all blank g ≡ true → closes z ≡ true → drop at document.now ≡ attributes_on l (g ++ z) → node_at < at → Judgement (NamesFault (standing_of node node_at (givens at l))) (fault_of result) }
-    ensures holds { (l : List Attribute) (g z : List ℕ) → all attribute_ok l ≡ true → all blank g ≡ true → closes z ≡ true → drop at document.now ≡ attributes_on l (g ++ z) → IfOk result (λ s. Filled document.now (rows_of node) (givens at l) s.spans) }
-{
-    let collected = collect(document, at, node);
-    let lacking = missing(node, &collected.slots);
-    match first_fault(lacking, collected.refused, node_at) {
-        Some(fault) => Err(fault),
-        None => Ok(collected.slots),
-    }
+    collected.refused?;
+    Ok(collected.slots)
 }

@@ -8,9 +8,10 @@ ghost use Rattle.rules.specs.Values.{under as under_of};
 ghost use Rattle.theory.specs.On.{content_on, ends};
 ghost use Rattle.reader.specs.Tree.{step as step_of, finished, wants_child as wants_child_of, tree_first, answer};
 
+use byte_classes::{Blank, NameByte, skip};
 use rules::{Fault, Node};
 use schema::{children, needs_child, tag};
-use tags::{after, closing, content_start, skip_blanks, skip_name, tag_end};
+use tags::{after, closing, content_start, tag_end};
 
 /// How far the children of a node have come: the row of the last one, and how many of it there are.
 #[derive(Clone, Copy)]
@@ -22,62 +23,53 @@ pub struct Progress {
 /// No child yet.
 const NONE_YET: Progress = Progress { row: 0, count: 0 };
 
-/// How far a child of this name brings the children, if it may stand there.
-fn step(under: Option<Node>, from: Progress, name: &[u8]) -> Option<Progress>
-    ensures is { result ≡ step_of (drop from.row (under_of under)) from.row from.count name.now }
-    ensures within { IfSome result (λ s. s.row < length (under_of under)) }
-{
-    let rows = children(under);
-    let mut row = from.row;
-    let mut count = from.count;
-    while row < rows.len() {
-        let child = rows[row];
-        if tag(child.node) == name {
-            if count < child.most {
-                return Some(Progress {
-                    row,
-                    count: count + 1,
-                });
+impl Progress {
+    /// How far a child of this name brings the children, if it may stand there.
+    fn step(self, under: Option<Node>, name: &[u8]) -> Option<Progress>
+        ensures is { result ≡ step_of (drop self.row (under_of under)) self.row self.count name.now }
+        ensures within { IfSome result (λ s. s.row < length (under_of under)) }
+    {
+        let rows = children(under).get(self.row..)?;
+        let mut count = self.count;
+        for (i, child) in rows.iter().enumerate() {
+            if tag(child.node) == name {
+                if count < child.most {
+                    return Some(Progress {
+                        row: self.row + i,
+                        count: count + 1,
+                    });
+                }
+                return None;
             }
-            return None;
+            if count < child.least {
+                return None;
+            }
+            count = 0;
         }
-        if count < child.least {
-            return None;
-        }
-        row += 1;
-        count = 0;
+        None
     }
-    None
+
+    /// Whether the children may end here.
+    fn may_end(self, under: Option<Node>) -> bool
+        ensures { result ≡ finished under self.row self.count }
+    {
+        if self.count == 0 && wants_child(under) {
+            return false;
+        }
+        match children(under).get(self.row..) {
+            Some([last, later @ ..]) => {
+                last.least <= self.count && later.iter().all(|child| child.least == 0)
+            }
+            _ => true,
+        }
+    }
 }
 
 /// Whether some child must stand under a node, whichever it is.
 fn wants_child(under: Option<Node>) -> bool
     ensures { result ≡ wants_child_of under }
 {
-    match under {
-        Some(node) => needs_child(node),
-        None => false,
-    }
-}
-
-/// Whether the children may end here.
-fn done(under: Option<Node>, so_far: Progress) -> bool
-    ensures { result ≡ finished under so_far.row so_far.count }
-{
-    if wants_child(under) && so_far.count == 0 {
-        return false;
-    }
-    let rows = children(under);
-    let mut row = so_far.row;
-    let mut count = so_far.count;
-    while row < rows.len() {
-        if count < rows[row].least {
-            return false;
-        }
-        row += 1;
-        count = 0;
-    }
-    true
+    matches!(under, Some(node) if needs_child(node))
 }
 
 /// Judges the elements from `at` on, which stand under a node and at most `depth` deep, up to an end tag or the end of the document, and gives the place of that.
@@ -89,32 +81,30 @@ fn level(document: &[u8], at: usize, under: Option<Node>, depth: u8) -> Result<u
     let mut so_far = NONE_YET;
     let mut i = at;
     'child: loop {
-        let place = skip_blanks(document, i);
+        let place = skip(Blank, document, i);
         if closing(document, place) {
-            if done(under, so_far) {
+            if so_far.may_end(under) {
                 return Ok(place);
             }
             return Err(Fault::Unfinished { place });
         }
-        let stop = skip_name(document, place + 1);
+        let stop = skip(NameByte, document, place + 1);
         let close = tag_end(document, stop);
         if close >= document.len() || depth == 0 {
             return Ok(close);
         }
-        let Some(next) = step(under, so_far, &document[place + 1..stop]) else {
-            return Err(Fault::Misplaced { place });
-        };
-        so_far = next;
-        let child = Some(children(under)[next.row].node);
-        if document[close] == b'/' {
-            if !done(child, NONE_YET) {
-                return Err(Fault::Unfinished { place });
-            }
-            i = after(document, close);
+        so_far = so_far
+            .step(under, &document[place + 1..stop])
+            .ok_or(Fault::Misplaced { place })?;
+        let child = Some(children(under)[so_far.row].node);
+        let end = if document[close] != b'/' {
+            level(document, close + 1, child, depth - 1)?
+        } else if NONE_YET.may_end(child) {
+            close
         } else {
-            let end = level(document, close + 1, child, depth - 1)?;
-            i = after(document, end);
-        }
+            return Err(Fault::Unfinished { place });
+        };
+        i = after(document, end);
     }
 }
 

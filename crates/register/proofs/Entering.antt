@@ -20,7 +20,9 @@ use Rattle.accounts.specs.declared.summaries.Summary.{Summary}
 use Rattle.register.specs.Copied.{CopyOf}
 use Rattle.register.specs.States.{open_state, texts}
 use Rattle.register.specs.declared.Register.{Register}
-use Rattle.register.specs.declared.Stored.{Stored}
+use borrow.Rule.Slice.PartMut.{put_mid}
+use Rattle.register.proofs.Copies.{entry_written}
+use Rattle.register.specs.declared.phases.Open.{Open}
 
 -- a lawful document whose fair copy has a length
 pub record Measured (facts : Facts) (d : List ℕ) (n : ℕ) : Type 0 where
@@ -56,11 +58,7 @@ measured {facts} {d} {s} {n} p counted =
       long = sym (counted m marks copy.in_order copy.named (omega arith) ∙ same);
     }
 
-module _ {facts : Facts} {d : List ℕ} {n : ℕ} (k : Measured facts d n) (r : Register) (s : Stored) (same_memory : s.memory.now ≡ r.memory.now) (same_count : s.count ≡ r.count) where
-  -- the entries are those that the memory of the register holds
-  same_texts : texts s ≡ decoded r.count r.memory.now
-  same_texts i = decoded (same_count i) (same_memory i)
-
+module _ {facts : Facts} {d : List ℕ} {n : ℕ} (k : Measured facts d n) (r : Register Open) where
   size : length (decoded r.count r.memory.now) ≡ r.count
   size = length_decoded r.count r.memory.now
 
@@ -68,15 +66,15 @@ module _ {facts : Facts} {d : List ℕ} {n : ℕ} (k : Measured facts d n) (r : 
   held = holds_true r.memory.now r.used r.count r.held
 
   -- an entry is the copy
-  pub entered_already : (e : ℕ) → ((c : List ℕ) → CopyOf d c → length c ≡ n → nth (texts s) e ≡ Some c) → Step (open_state r) (enter facts d) (entering (Err (AlreadyEntered e))) (open_state r)
+  pub entered_already : (e : ℕ) → ((c : List ℕ) → CopyOf d c → length c ≡ n → nth (texts r) e ≡ Some c) → Step (open_state r) (enter facts d) (entering (Err (AlreadyEntered e))) (open_state r)
   entered_already e found = (
     refl,
-    lawful k.values k.lawful_under k.has_values (already e (subst (λ ts. nth ts e ≡ Some (fair_copy k.values)) same_texts (found (fair_copy k.values) k.copy k.long)) refl refl),
+    lawful k.values k.lawful_under k.has_values (already e (found (fair_copy k.values) k.copy k.long) refl refl),
   )
 
-  module _ (none : (c : List ℕ) → CopyOf d c → length c ≡ n → Absent c (texts s)) where
+  module _ (none : (c : List ℕ) → CopyOf d c → length c ≡ n → Absent c (texts r)) where
     absent : Absent (fair_copy k.values) (decoded r.count r.memory.now)
-    absent = subst (Absent (fair_copy k.values)) same_texts (none (fair_copy k.values) k.copy k.long)
+    absent = none (fair_copy k.values) k.copy k.long
 
     -- there are 256 entries
     pub entered_full : 256 ≤ r.count → Step (open_state r) (enter facts d) (entering (Err Full)) (open_state r)
@@ -90,23 +88,29 @@ module _ {facts : Facts} {d : List ℕ} {n : ℕ} (k : Measured facts d n) (r : 
       pub entered_without_room : room r.memory.now - r.used < n + 4 → Step (open_state r) (enter facts d) (entering (Err NoRoom)) (open_state r)
       entered_without_room lt = (refl, lawful k.values k.lawful_under k.has_values (no_room absent (omega (arith, size)) (omega (arith, room_left, k.long)) refl refl))
 
-      -- the copy is written after the other entries
-      module _ (fit : n + 4 ≤ room r.memory.now - r.used) (m' : List ℕ)
-          (stored : (c : List ℕ) → CopyOf d c → length c ≡ n → m' ≡ take r.used r.memory.now ++ ((four_bytes (length c) ++ c) ++ drop (r.used + (length c + 4)) r.memory.now)) where
-        written : m' ≡ take r.used r.memory.now ++ ((four_bytes (length (fair_copy k.values)) ++ fair_copy k.values) ++ drop (r.used + (length (fair_copy k.values) + 4)) r.memory.now)
-        written = stored (fair_copy k.values) k.copy k.long
+      -- the copy is written after the other entries, in a part of the memory that is x then
+      module _ (fit : n + 4 ≤ room r.memory.now - r.used) (x : List ℕ)
+          (stored : (c : List ℕ) → CopyOf d c → length c + 4 ≡ length (take (r.used + (n + 4) - r.used) (drop r.used r.memory.now)) → x ≡ four_bytes (length c) ++ c) where
+        abbrev c : List ℕ
+        c = fair_copy k.values
 
-        fits : r.used + (length (fair_copy k.values) + 4) ≤ room r.memory.now
+        abbrev m' : List ℕ
+        m' = put_mid r.used (r.used + (n + 4) - r.used) r.memory.now x
+
+        fits : r.used + (length c + 4) ≤ room r.memory.now
         fits = omega (arith, held.fits, k.long)
+
+        written : m' ≡ take r.used r.memory.now ++ ((four_bytes (length c) ++ c) ++ drop (r.used + (length c + 4)) r.memory.now)
+        written = entry_written r.memory.now c x r.used n k.long fits (stored c k.copy)
 
         pub entered_new : Step (open_state r) (enter facts d) (entering (Ok (r.count + 1))) (state_at opened m' (r.used + (n + 4)) (r.count + 1))
         entered_new =
             let next : r.count + 1 ≡ suc (length (decoded r.count r.memory.now)) = omega (arith, size) in
             subst (λ i. Step (open_state r) (enter facts d) (entering (Ok (r.count + 1))) (state_at opened m' (r.used + (i + 4)) (r.count + 1))) k.long
-            (refl, lawful k.values k.lawful_under k.has_values (granted absent (omega (arith, size)) (omega (arith, room_left, k.long)) (ap (λ i. entering (Ok i)) next) (more_at opened (fair_copy k.values) m' held few fits written)))
+            (refl, lawful k.values k.lawful_under k.has_values (granted absent (omega (arith, size)) (omega (arith, room_left, k.long)) (ap (λ i. entering (Ok i)) next) (more_at opened c m' held few fits written)))
 
         pub new_held : holds m' (r.used + (n + 4)) (r.count + 1) ≡ true
-        new_held = subst (λ i. holds m' (r.used + (i + 4)) (r.count + 1) ≡ true) k.long (holds_from (holds_more (fair_copy k.values) m' held few fits written))
+        new_held = subst (λ i. holds m' (r.used + (i + 4)) (r.count + 1) ≡ true) k.long (holds_from (holds_more c m' held few fits written))
 
         pub new_copies : ∥ AllCopies (decoded (r.count + 1) m') ∥₁
-        new_copies = known_more (fair_copy k.values) m' held few fits written r.copies (copy_made facts d k.values k.lawful_under k.has_values)
+        new_copies = known_more c m' held few fits written r.copies (copy_made facts d k.values k.lawful_under k.has_values)

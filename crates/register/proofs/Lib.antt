@@ -1,4 +1,6 @@
-pub mod Texts
+pub mod Laid
+pub mod Live
+pub mod Places
 pub mod Copies
 pub mod Cadenas
 pub mod Asking

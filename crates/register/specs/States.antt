@@ -1,23 +1,23 @@
 -- What a register in memory means.
-use Rattle.std.specs.Prelude.{ℕ, ◌+◌, List}
-use Rattle.rules.specs.Register.{State, opened, closed}
-use Rattle.promises.specs.Stored.{decoded, place_of_entry, state_at}
+use Rattle.std.specs.Prelude.{List, ℕ}
+use Rattle.rules.specs.Register.{Phase, State, opened, closed}
+use Rattle.promises.specs.Stored.{decoded, state_at}
 use Rattle.register.specs.declared.Register.{Register}
-use Rattle.register.specs.declared.ClosedRegister.{ClosedRegister}
-use Rattle.register.specs.declared.Stored.{Stored}
+use Rattle.register.specs.declared.phases.Open.{Open}
+use Rattle.register.specs.declared.phases.Closed.{Closed}
+
+-- the register that one in a phase means
+abbrev pub state_of : {P : Type 0} → Phase → Register P → State
+state_of p r = state_at p r.memory.now r.used r.count
 
 -- the register that an open one means
-abbrev pub open_state : Register → State
-open_state r = state_at opened r.memory.now r.used r.count
+abbrev pub open_state : Register Open → State
+open_state r = state_of opened r
 
 -- the register that a closed one means
-abbrev pub closed_state : ClosedRegister → State
-closed_state r = state_at closed r.memory.now r.used r.count
+abbrev pub closed_state : Register Closed → State
+closed_state r = state_of closed r
 
 -- the fair copies of entries in memory
-abbrev pub texts : Stored → List (List ℕ)
-texts e = decoded e.count e.memory.now
-
--- the place in memory of the entry that follows so many others
-abbrev pub place_after : Stored → ℕ → ℕ
-place_after s before = place_of_entry (texts s) (before + 1)
+abbrev pub texts : {P : Type 0} → Register P → List (List ℕ)
+texts r = decoded r.count r.memory.now

@@ -1,29 +1,27 @@
 // The fair copy of a document, compared with stored text and written into memory.
-ghost use Rattle.std.specs.Prelude.{◌≡◌, ℕ, ◌+◌, ◌^◌, ◌<◌, ◌≤◌, List, ◌++◌, length, take, drop, Decides};
+ghost use Rattle.std.specs.Prelude.{◌≡◌, ℕ, ◌+◌, ◌^◌, ◌<◌, ◌≤◌, List, ◌++◌, length, Decides};
 ghost use Rattle.rules.specs.Register.{four_bytes};
 ghost use Rattle.register.specs.Copied.{CopyOf};
 
 use fair::send_fair_copy;
 use sinks::{Buffer, Matcher};
 
+/// The bytes that tell the length of an entry.
+pub(crate) const LENGTH_BYTES: usize = 4;
+
 /// Whether a matcher of a text takes the fair copy of a document, and is then matched.
 fn matches(document: &[u8], text: &[u8]) -> bool
     ensures { (c : List ℕ) → CopyOf document.now c → Decides result (text.now ≡ c) }
 {
     let mut matcher = Matcher::new(text);
-    let sent = send_fair_copy(document, &mut matcher);
-    let whole = matcher.matched();
-    sent.is_ok() && whole
+    send_fair_copy(document, &mut matcher).is_ok() && matcher.matched()
 }
 
 /// Whether the fair copy of a document, which has a length, is this text; no byte is compared where the lengths differ, and none after the first difference.
 pub(crate) fn is_copy(document: &[u8], copy_length: usize, text: &[u8]) -> bool
     ensures { (c : List ℕ) → CopyOf document.now c → length c ≡ copy_length → Decides result (text.now ≡ c) }
 {
-    if text.len() != copy_length {
-        return false;
-    }
-    matches(document, text)
+    text.len() == copy_length && matches(document, text)
 }
 
 /// Writes the fair copy of a document into memory of just its length.
@@ -34,33 +32,13 @@ fn write_copy(document: &[u8], room: &mut [u8])
     let _ = send_fair_copy(document, &mut buffer);
 }
 
-/// The four bytes of a length, most significant first.
-fn length_bytes(n: usize) -> [u8; 4]
-    requires { n < 2 ^ 32 }
-    ensures { result ≡ four_bytes n }
+/// Stores the fair copy of a document in memory of just its length and four bytes: the four bytes of the length, then the copy.
+pub(crate) fn store(document: &[u8], room: &mut [u8])
+    requires head { 4 ≤ length room.old }
+    requires short { length room.old < 2 ^ 32 }
+    ensures { (c : List ℕ) → CopyOf document.now c → length c + 4 ≡ length room.old → room.new ≡ four_bytes (length c) ++ c }
 {
-    [
-        (n / 16_777_216) as u8,
-        (n / 65_536 % 256) as u8,
-        (n / 256 % 256) as u8,
-        (n % 256) as u8,
-    ]
-}
-
-/// Stores the fair copy of a document, which has a length, at a place: the four bytes of the length, then the copy.
-pub(crate) fn store<'a>(
-    memory: &'a mut [u8],
-    at: usize,
-    document: &[u8],
-    copy_length: usize,
-) -> &'a mut [u8]
-    requires fits { at + (copy_length + 4) ≤ length memory.old }
-    requires short { copy_length < 2 ^ 32 }
-    ensures stored { (c : List ℕ) → CopyOf document.now c → length c ≡ copy_length → result.now ≡ take at memory.old ++ ((four_bytes (length c) ++ c) ++ drop (at + (length c + 4)) memory.old) }
-    ensures lent { result.ghost_name ≡ memory.entry.ghost_name }
-{
-    let body = at + 4;
-    memory[at..body].copy_from_slice(&length_bytes(copy_length));
-    write_copy(document, &mut memory[body..body + copy_length]);
-    memory
+    let (head, body) = room.split_at_mut(LENGTH_BYTES);
+    head.copy_from_slice(&(body.len() as u32).to_be_bytes());
+    write_copy(document, body);
 }

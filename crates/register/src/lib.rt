@@ -8,34 +8,23 @@ mod closed;
 mod copying;
 mod entries;
 mod open;
+mod phases;
 mod questions;
+mod texts;
 
-/// An open register, which takes invoices and answers for those that it has.
+pub use phases::{Closed, Open, Phase};
+use std::marker::PhantomData;
+
+/// A register in a phase: an open one takes invoices, and one in either phase answers for those that it has.
 #[derive(Drop)]
-pub struct Register<'a> {
+pub struct Register<'a, P = Open> {
     memory: &'a mut [u8],
     used: usize,
     count: u16,
+    phase: PhantomData<P>,
     ghost held: { holds memory.now used count ≡ true },
     ghost copies: { ∥ AllCopies (decoded count memory.now) ∥₁ },
 }
 
 /// A closed register, which takes no more invoices.
-#[derive(Drop)]
-pub struct ClosedRegister<'a> {
-    memory: &'a mut [u8],
-    used: usize,
-    count: u16,
-    ghost held: { holds memory.now used count ≡ true },
-    ghost copies: { ∥ AllCopies (decoded count memory.now) ∥₁ },
-}
-
-/// The entries of a register as they lie in its memory.
-#[derive(Clone, Copy)]
-struct Stored<'m> {
-    memory: &'m [u8],
-    used: usize,
-    count: u16,
-    ghost held: { holds memory.now used count ≡ true },
-    ghost copies: { ∥ AllCopies (decoded count memory.now) ∥₁ },
-}
+pub type ClosedRegister<'a> = Register<'a, Closed>;

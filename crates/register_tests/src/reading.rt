@@ -1,7 +1,7 @@
 // What registers send to sinks.
 use crate::answers::{enter_written, told};
 use crate::invoices::cadena;
-use register::{ClosedRegister, Register};
+use register::{Phase, Register};
 use sinks::{Buffer, Matcher, send_to};
 use std::alloc::{AllocError, Global};
 use std::test::Fail;
@@ -45,19 +45,8 @@ fn a_buffer_that_stops(rt: HostRuntime) -> Result<(), Fail> {
     Ok(())
 }
 
-/// The faults that an open register tells for the numbers 0 to 3, of which the texts go to a buffer.
-fn ask_open(register: &Register<'_>, to: &mut Buffer<'_>) -> [(u8, u8); 4] {
-    let mut answers = [(0, 0); 4];
-    for n in 0..4 {
-        let cadena = told(register.cadena(n, to));
-        let copy = told(register.fair_copy(n, to));
-        answers[n as usize] = (cadena.0, copy.0);
-    }
-    answers
-}
-
-/// The faults that a closed register tells for them.
-fn ask_closed(register: &ClosedRegister<'_>, to: &mut Buffer<'_>) -> [(u8, u8); 4] {
+/// The faults that a register in either phase tells for the numbers 0 to 3, of which the texts go to a buffer.
+fn ask<P: Phase>(register: &Register<'_, P>, to: &mut Buffer<'_>) -> [(u8, u8); 4] {
     let mut answers = [(0, 0); 4];
     for n in 0..4 {
         let cadena = told(register.cadena(n, to));
@@ -75,11 +64,11 @@ fn closed_as_open(rt: HostRuntime) -> Result<(), Fail> {
     let wanted = [(14, 14), (0, 0), (0, 0), (14, 14)];
     let mut open_room = [0u8; 4_096];
     let mut from_open = Buffer::new(&mut open_room);
-    assert_eq!(rt; ask_open(&register, &mut from_open), wanted);
+    assert_eq!(rt; ask(&register, &mut from_open), wanted);
     let closed = register.close();
     let mut closed_room = [0u8; 4_096];
     let mut from_closed = Buffer::new(&mut closed_room);
-    assert_eq!(rt; ask_closed(&closed, &mut from_closed), wanted);
+    assert_eq!(rt; ask(&closed, &mut from_closed), wanted);
     assert!(rt; closed.count() == 2 && from_open.bytes() == from_closed.bytes());
     Ok(())
 }

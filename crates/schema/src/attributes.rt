@@ -130,11 +130,11 @@ pub fn rows(node: Node) -> &'static [Row]
             may!(b"TasaOCuota", Kind::Amount),
             may!(b"Importe", Kind::Amount),
         ],
-        Node::Conceptos => &[],
-        Node::ConceptoImpuestos => &[],
-        Node::ConceptoTraslados => &[],
-        Node::ConceptoRetenciones => &[],
-        Node::Retenciones => &[],
-        Node::Traslados => &[],
+        Node::Conceptos
+        | Node::ConceptoImpuestos
+        | Node::ConceptoTraslados
+        | Node::ConceptoRetenciones
+        | Node::Retenciones
+        | Node::Traslados => &[],
     }
 }

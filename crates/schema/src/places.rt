@@ -48,12 +48,14 @@ pub fn children(under: Option<Node>) -> &'static [Child]
         ],
         Some(Node::Retenciones) => &[child!(Node::Retencion, 1, 32)],
         Some(Node::Traslados) => &[child!(Node::Traslado, 1, 32)],
-        Some(Node::Emisor) => &[],
-        Some(Node::Receptor) => &[],
-        Some(Node::ConceptoTraslado) => &[],
-        Some(Node::ConceptoRetencion) => &[],
-        Some(Node::Retencion) => &[],
-        Some(Node::Traslado) => &[],
+        Some(
+            Node::Emisor
+            | Node::Receptor
+            | Node::ConceptoTraslado
+            | Node::ConceptoRetencion
+            | Node::Retencion
+            | Node::Traslado,
+        ) => &[],
     }
 }
 
@@ -84,17 +86,14 @@ pub fn tag(node: Node) -> &'static [u8]
 pub fn same_node(a: Node, b: Node) -> bool
     ensures { result ≡ is a b }
 {
-    a as u8 == b as u8
+    a == b
 }
 
 /// Whether a node must have some child at all, whichever it is.
 pub fn needs_child(node: Node) -> bool
     ensures { result ≡ needs_child_of node }
 {
-    match node {
-        Node::ConceptoImpuestos => true,
-        _ => false,
-    }
+    matches!(node, Node::ConceptoImpuestos)
 }
 
 /// The node that a node stands under; the Comprobante stands at the document's own level.
@@ -124,10 +123,8 @@ pub fn parent(node: Node) -> Option<Node>
 pub fn placed(under: Option<Node>, name: &[u8]) -> Option<Node>
     ensures { result ≡ placed_of under name.now }
 {
-    for child in children(under) {
-        if tag(child.node) == name {
-            return Some(child.node);
-        }
-    }
-    None
+    children(under)
+        .iter()
+        .find(|child| tag(child.node) == name)
+        .map(|child| child.node)
 }

@@ -5,14 +5,15 @@ use Rattle.std.proofs.lemmas.List.{length-take-le}
 use Rattle.rules.specs.declared.grounds.Fault.{Fault}
 use Rattle.rules.specs.declared.grounds.Fault.TheVariants.{Stopped}
 use Rattle.rules.specs.Sinks.{Sent}
-use Rattle.sinks.specs.Staying.{Staying, SentTo}
+use Rattle.sinks.specs.Sending.{SentTo}
 use Rattle.sinks.specs.Writers.{Written}
 use Rattle.sinks.specs.Counts.{through}
+use Rattle.sinks.specs.declared.sink.Sink.{Ghosts}
 use Rattle.sinks.specs.declared.through.Through.{Through}
 use Rattle.sinks.proofs.Sending.{longest_by}
 
-module _ {S : Type 0} {taken : S → List ℕ} {allows : S → List ℕ → ℕ → Bool} {stays : Staying S} where
-  sent_at : {a b : Through S} {text : List ℕ} {all : Bool} → Written (through taken allows stays) a text all b → a.count ≡ 0 → length text < 2 ^ 64 → Sent (allows a.sink.now) (taken a.sink.now) text (cond all (Ok tt) (Err (Stopped b.count))) (allows b.sink.now) (taken b.sink.now)
+module _ {S : Type 0} {sink : Ghosts S} where
+  sent_at : {a b : Through S} {text : List ℕ} {all : Bool} → Written (through sink) a text all b → a.count ≡ 0 → length text < 2 ^ 64 → Sent (sink.allows a.sink.now) (sink.taken a.sink.now) text (cond all (Ok tt) (Err (Stopped b.count))) (sink.allows b.sink.now) (sink.taken b.sink.now)
   sent_at {a} {b} {text} {all} p none bound =
       let long : length (take p.count text) ≡ p.count = length-take-le p.count text p.longest.within in
       let same : b.count ≡ p.count = omega (arith, p.taken.count_is, p.longest.within) in
@@ -25,5 +26,5 @@ module _ {S : Type 0} {taken : S → List ℕ} {allows : S → List ℕ → ℕ 
       }
 
   -- what a call that wrote through to a sink answers, and how it leaves the sink
-  pub sent_through : {a b : Through S} {text : List ℕ} {all : Bool} {s s' : S} {r : Result (Unit {0}) Fault} → Written (through taken allows stays) a text all b → a.count ≡ 0 → length text < 2 ^ 64 → a.sink.now ≡ s → s' ≡ b.sink.now → r ≡ cond all (Ok tt) (Err (Stopped b.count)) → SentTo taken allows stays s text r s'
-  sent_through {a} {b} {text} {all} p none bound from to answer = transport (λ i. SentTo taken allows stays (from i) text (sym answer i) (sym to i)) record { sent = sent_at p none bound; stayed = p.taken.stayed }
+  pub sent_through : {a b : Through S} {text : List ℕ} {all : Bool} {s s' : S} {r : Result (Unit {0}) Fault} → Written (through sink) a text all b → a.count ≡ 0 → length text < 2 ^ 64 → a.sink.now ≡ s → s' ≡ b.sink.now → r ≡ cond all (Ok tt) (Err (Stopped b.count)) → SentTo sink s text r s'
+  sent_through {a} {b} {text} {all} p none bound from to answer = transport (λ i. SentTo sink (from i) text (sym answer i) (sym to i)) record { sent = sent_at p none bound; stayed = p.taken.stayed }

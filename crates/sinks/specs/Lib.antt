@@ -1,3 +1,4 @@
 pub mod Staying
 pub mod Writers
 pub mod Counts
+pub mod Sending

@@ -1,8 +1,6 @@
--- What of a sink stays as it was while it takes bytes, and what a call that sends to it does.
-use Rattle.std.specs.Prelude.{◌≡◌, ℕ, ◌+◌, ◌-◌, ◌≤◌, Bool, List, length, drop, Result, refl}
+-- What of a sink stays as it was while it takes bytes.
+use Rattle.std.specs.Prelude.{◌≡◌, ℕ, ◌+◌, ◌-◌, ◌≤◌, List, length, drop, refl}
 use Rattle.std.proofs.Common.{sym, ap, subst, ◌∙◌, arith, drop-drop}
-use Rattle.rules.specs.declared.grounds.Fault.{Fault}
-use Rattle.rules.specs.Sinks.{Sent}
 
 -- what of a sink stays as it was from one time to a later one
 pub record Staying (S : Type 0) : Type 1 where
@@ -48,8 +46,3 @@ room_stays count room = record {
   still = λ a. record { grows = omega arith; as_long = refl; rest = refl };
   later = λ a b c p q. rooms_stay (count a) (count b) (count c) (room a) (room b) (room c) p q;
 }
-
--- a call sent a text to a sink, which was s and is s'
-pub record SentTo {S : Type 0} (taken : S → List ℕ) (allows : S → List ℕ → ℕ → Bool) (stays : Staying S) (s : S) (text : List ℕ) (answer : Result (Unit {0}) Fault) (s' : S) : Type 0 where
-  pub sent : Sent (allows s) (taken s) text answer (allows s') (taken s')
-  pub stayed : stays.since s s'

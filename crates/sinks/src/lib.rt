@@ -7,6 +7,7 @@ mod matcher;
 mod sink;
 #[cfg(test)]
 mod tests;
+mod text;
 mod through;
 mod writer;
 
@@ -14,5 +15,6 @@ pub use buffer::Buffer;
 pub use counter::Counter;
 pub use matcher::Matcher;
 pub use sink::Sink;
-pub use through::{Through, send_to};
+pub use text::{Bytes, Text, text_length};
+pub use through::{Through, send_text, send_to};
 pub use writer::{Refused, Writer, send};

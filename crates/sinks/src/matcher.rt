@@ -46,11 +46,10 @@ impl<'a> Sink for Matcher<'a> {
     ghost stays = { same_stays (λ s. s.expected.now) };
 
     fn put(&mut self, byte: u8) -> bool {
-        if self.count < self.expected.len() && self.expected[self.count] == byte {
-            self.count += 1;
-            true
-        } else {
-            false
+        if self.expected.get(self.count).copied() != Some(byte) {
+            return false;
         }
+        self.count += 1;
+        true
     }
 }

@@ -1,7 +1,8 @@
 // Examples of what sinks take.
 use crate::buffer::Buffer;
 use crate::matcher::Matcher;
-use crate::through::send_to;
+use crate::text::{Bytes, text_length};
+use crate::through::{send_text, send_to};
 use std::test::Fail;
 
 #[test]
@@ -27,5 +28,18 @@ fn a_matcher_stops(rt: HostRuntime) -> Result<(), Fail> {
         Ok(()) => return Err(Fail::new("a matched matcher took a byte")),
     }
     assert!(rt; matcher.count() == 3);
+    Ok(())
+}
+
+#[test]
+fn a_text_is_sent_and_counted(rt: HostRuntime) -> Result<(), Fail> {
+    let text = Bytes(b"abc");
+    assert!(rt; text_length(&text) == 3);
+    let mut matcher = Matcher::new(b"abc");
+    assert!(rt; send_text(&text, &mut matcher).is_ok() && matcher.matched());
+    match send_text(&text, &mut matcher) {
+        Err(fault) => assert!(rt; fault.number() == 15 && fault.place() == 0),
+        Ok(()) => return Err(Fail::new("a matched matcher took a byte")),
+    }
     Ok(())
 }

@@ -1,11 +1,12 @@
 // What writes to a sink and counts the bytes that it takes.
-ghost use Rattle.std.specs.Prelude.{◌≡◌, ℕ, is_ok, if◌then◌else◌, Ok, Err};
+ghost use Rattle.std.specs.Prelude.{◌≡◌, ℕ, ◌^◌, ◌<◌, List, length, is_ok, if◌then◌else◌, Ok, Err};
 ghost use Rattle.rules.specs.declared.grounds.Fault.TheVariants.{Stopped};
-ghost use Rattle.sinks.specs.Staying.{SentTo};
 ghost use Rattle.sinks.specs.Counts.{through};
+ghost use Rattle.sinks.specs.Sending.{SentTo};
 
 use crate::sink::Sink;
-use crate::writer::{Refused, Writer, send};
+use crate::text::{Bytes, Text};
+use crate::writer::{Refused, Writer};
 use rules::Fault;
 
 /// Writes to a sink, and counts the bytes that it takes.
@@ -36,15 +37,12 @@ impl<'a, S: Sink> Through<'a, S> {
     pub fn answer(&self, written: Result<(), Refused>) -> Result<(), Fault>
         ensures { result ≡ (if is_ok written then Ok tt else Err (Stopped self.now.count)) }
     {
-        match written {
-            Ok(()) => Ok(()),
-            Err(Refused) => Err(Fault::Stopped { taken: self.count }),
-        }
+        written.or(Err(Fault::Stopped { taken: self.count }))
     }
 }
 
 impl<'a, S: Sink> Writer for Through<'a, S> {
-    ghost writing = { through S.Sink.taken S.Sink.allows S.Sink.stays };
+    ghost writing = { through S.Sink };
 
     fn write(&mut self, byte: u8) -> Result<(), Refused> {
         if !self.sink.put(byte) {
@@ -55,11 +53,18 @@ impl<'a, S: Sink> Writer for Through<'a, S> {
     }
 }
 
-/// Sends bytes to a sink until it refuses one.
-pub fn send_to<S: Sink>(sink: &mut S, bytes: &[u8]) -> Result<(), Fault>
-    ensures { SentTo S.Sink.taken S.Sink.allows S.Sink.stays sink.old bytes.now result sink.new }
+/// Sends a text to a sink until the sink refuses a byte.
+pub fn send_text<T: Text, S: Sink>(text: &T, sink: &mut S) -> Result<(), Fault>
+    ensures { (t : List ℕ) → T.Text.reads text.now t → length t < 2 ^ 64 → SentTo S.Sink sink.old t result sink.new }
 {
     let mut to = Through::new(sink);
-    let written = send(&mut to, bytes);
+    let written = text.write(&mut to);
     to.answer(written)
+}
+
+/// Sends bytes to a sink until it refuses one.
+pub fn send_to<S: Sink>(sink: &mut S, bytes: &[u8]) -> Result<(), Fault>
+    ensures { SentTo S.Sink sink.old bytes.now result sink.new }
+{
+    send_text(&Bytes(bytes), sink)
 }

@@ -20,8 +20,8 @@ pub trait Writer {
 pub fn send<W: Writer>(to: &mut W, bytes: &[u8]) -> Result<(), Refused>
     ensures { Written W.Writer.writing to.old bytes.now (is_ok result) to.new }
 {
-    for i in 0..bytes.len() {
-        to.write(bytes[i])?;
+    for byte in bytes {
+        to.write(*byte)?;
     }
     Ok(())
 }

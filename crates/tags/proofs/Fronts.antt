@@ -1,41 +1,28 @@
 -- Runs of bytes at the front of what is left of a text.
-use Rattle.std.proofs.Common.{◌≡◌, ℕ, suc, ◌+◌, ◌-◌, ◌<◌, ◌≤◌, Bool, true, false, eqb, List, [], ◌∷◌, ◌++◌, length, get_or, take, drop, sym, refl, ap, ◌∙◌, add-zero, one-add, arith}
-use Rattle.std.proofs.lemmas.List.{at_drop_more, at_drop_all, drop-drop, drop_at, drop_more, take_at, get_or-drop, length-drop}
-use Rattle.std.proofs.lemmas.Bool.{cond-true, cond-false, and_parts, not-true, not_from_false, not_from_true, ne_eqb, eq-eqb}
+use Rattle.std.proofs.Common.{◌≡◌, ℕ, suc, ◌+◌, ◌-◌, ◌<◌, ◌≤◌, Bool, true, List, [], ◌∷◌, ◌++◌, length, get_or, take, drop, sym, refl, ap, ◌∙◌, add-zero, one-add, arith}
+use Rattle.std.proofs.lemmas.List.{drop-drop, drop_at, take_at, get_or-drop, length-drop}
+use Rattle.std.proofs.lemmas.Bool.{cond-true, cond-false, and_parts, not-true, eq-eqb}
 use Rattle.std.proofs.lemmas.Bool.Decides.{nat_tests}
 use Rattle.rules.specs.Bytes.{all}
-use Rattle.tags.specs.Scan.{front, other, through, ended}
+use Rattle.tags.specs.Scan.{through}
+use Rattle.std.specs.List.{prefix_len}
+use Rattle.byte_classes.specs.Runs.{other}
 use Rattle.theory.specs.On.{stops}
 
-pub front_more : (p : ℕ → Bool) (d : List ℕ) (i : ℕ) → i < length d → p (get_or d i 0) ≡ true → i + front p (drop i d) ≡ (i + 1) + front p (drop (i + 1) d)
-front_more p d i h e = omega (arith, at_drop_more (front p) d i 0 h ∙ cond-true _ _ _ e)
-
-pub front_stop : (p : ℕ → Bool) (d : List ℕ) (i : ℕ) → i < length d → p (get_or d i 0) ≡ false → front p (drop i d) ≡ 0
-front_stop p d i h e = at_drop_more (front p) d i 0 h ∙ cond-false _ _ _ e
-
-pub front_end : (p : ℕ → Bool) (d : List ℕ) (i : ℕ) → length d ≤ i → front p (drop i d) ≡ 0
-front_end p d i h = at_drop_all (front p) d i h
-
-pub front_at : (p : ℕ → Bool) (xs r : List ℕ) → all p xs ≡ true → stops p r ≡ true → front p (xs ++ r) ≡ length xs
-front_at p [] [] a s = refl
-front_at p [] (b ∷ r) a s = cond-false _ _ _ (not-true _ s)
-front_at p (x ∷ xs) r a s = let (u, v) = and_parts _ _ a in cond-true _ _ _ u ∙ ap (λ n. 1 + n) (front_at p xs r v s) ∙ one-add (length xs)
+pub prefix_len_at : (p : ℕ → Bool) (xs r : List ℕ) → all p xs ≡ true → stops p r ≡ true → prefix_len p (xs ++ r) ≡ length xs
+prefix_len_at p [] [] a s = refl
+prefix_len_at p [] (b ∷ r) a s = cond-false _ _ _ (not-true _ s)
+prefix_len_at p (x ∷ xs) r a s = let (u, v) = and_parts _ _ a in cond-true _ _ _ u ∙ ap (λ n. 1 + n) (prefix_len_at p xs r v s) ∙ one-add (length xs)
 
 -- past a piece of what is left
 pub past : (d xs r : List ℕ) (i : ℕ) → drop i d ≡ xs ++ r → drop (i + length xs) d ≡ r
 past d xs r i e = sym (drop-drop (length xs) i d) ∙ ap (drop (length xs)) e ∙ drop_at xs r (length xs) refl
 
 -- a scan over a run of bytes comes to what follows it
-pub scanned : (p : ℕ → Bool) (d xs r : List ℕ) (i e : ℕ) → e ≡ i + front p (drop i d) → all p xs ≡ true → stops p r ≡ true → drop i d ≡ xs ++ r → (e ≡ i + length xs) × (drop e d ≡ r)
+pub scanned : (p : ℕ → Bool) (d xs r : List ℕ) (i e : ℕ) → e ≡ i + prefix_len p (drop i d) → all p xs ≡ true → stops p r ≡ true → drop i d ≡ xs ++ r → (e ≡ i + length xs) × (drop e d ≡ r)
 scanned p d xs r i e h a s f =
-    let g : e ≡ i + length xs = h ∙ ap (λ n. i + n) (ap (front p) f ∙ front_at p xs r a s) in
+    let g : e ≡ i + length xs = h ∙ ap (λ n. i + n) (ap (prefix_len p) f ∙ prefix_len_at p xs r a s) in
     (g, ap (λ n. drop n d) g ∙ past d xs r i f)
-
-pub other_true : (q b : ℕ) → (b ≡ q → ⊥) → other q b ≡ true
-other_true q b h = not_from_false _ (ne_eqb b q h)
-
-pub other_false : (q b : ℕ) → b ≡ q → other q b ≡ false
-other_false q b h = not_from_true _ (eq-eqb b q h)
 
 -- a byte of what is left
 pub lies_less : (d xs : List ℕ) (x i : ℕ) → drop i d ≡ x ∷ xs → i < length d
@@ -52,17 +39,17 @@ pub cut : (d xs r : List ℕ) (i j : ℕ) → drop i d ≡ xs ++ r → j ≡ i +
 cut d xs r i j e q = ap (take (j - i)) e ∙ take_at xs r (j - i) (omega arith)
 
 -- where the byte is found, and where it is not
-pub through_there : (q : ℕ) (d : List ℕ) (i j : ℕ) → j ≡ i + front (other q) (drop i d) → j < length d → j + 1 ≡ i + through q (drop i d)
+pub through_there : (q : ℕ) (d : List ℕ) (i j : ℕ) → j ≡ i + prefix_len (other q) (drop i d) → j < length d → j + 1 ≡ i + through q (drop i d)
 through_there q d i j h l = omega (arith, go (drop i d) (omega (arith, length-drop i d)))
   where
-    go : (xs : List ℕ) → front (other q) xs < length xs → through q xs ≡ front (other q) xs + 1
+    go : (xs : List ℕ) → prefix_len (other q) xs < length xs → through q xs ≡ prefix_len (other q) xs + 1
     go [] k = absurd (omega arith)
     go (x ∷ xs) k = grind (arith, nat_tests, go xs)
 
-pub through_not : (q : ℕ) (d : List ℕ) (i j : ℕ) → j ≡ i + front (other q) (drop i d) → length d ≤ j → j ≡ i + through q (drop i d)
+pub through_not : (q : ℕ) (d : List ℕ) (i j : ℕ) → j ≡ i + prefix_len (other q) (drop i d) → length d ≤ j → j ≡ i + through q (drop i d)
 through_not q d i j h l = omega (arith, go (drop i d) (omega (arith, length-drop i d)))
   where
-    go : (xs : List ℕ) → length xs ≤ front (other q) xs → through q xs ≡ front (other q) xs
+    go : (xs : List ℕ) → length xs ≤ prefix_len (other q) xs → through q xs ≡ prefix_len (other q) xs
     go [] k = refl
     go (x ∷ xs) k = grind (arith, nat_tests, go xs)
 
@@ -76,14 +63,3 @@ passed q d xs rest i r h a e =
     go : (ys : List ℕ) → all (other q) ys ≡ true → through q (ys ++ q ∷ rest) ≡ length ys + 1
     go [] a = cond-true _ _ _ (eq-eqb q q refl)
     go (y ∷ ys) a = let (u, v) = and_parts _ _ a in let w = go ys v in cond-false _ _ _ (not-true _ u) ∙ omega arith
-
-pub ended_short : (d : List ℕ) (i : ℕ) → length d < i + 2 → true ≡ ended (drop i d)
-ended_short d i l = go (drop i d) (sym (length-drop i d))
-  where
-    go : (xs : List ℕ) → length d - i ≡ length xs → true ≡ ended xs
-    go [] e = refl
-    go (x ∷ []) e = refl
-    go (x ∷ y ∷ xs) e = absurd (omega arith)
-
-pub ended_long : (d : List ℕ) (i : ℕ) → i + 1 < length d → eqb (get_or d (i + 1) 0) 47 ≡ ended (drop i d)
-ended_long d i l = sym (ap ended (drop_more d i 0 (omega arith) ∙ ap (λ x. get_or d i 0 ∷ x) (drop_more d (i + 1) 0 l)))

@@ -1,16 +1,18 @@
 -- The parts of an attribute as the scans find them.
-use Rattle.std.proofs.Common.{◌≡◌, ℕ, ◌+◌, ◌-◌, ◌<◌, min, true, ◌||◌, eqb, List, [], ◌∷◌, ◌++◌, length, get_or, take, drop, Some, None, sym, refl, ap, ◌∙◌, inl, inr, arith, length-append}
+use Rattle.std.proofs.Common.{◌≡◌, ℕ, ◌+◌, ◌-◌, ◌<◌, min, true, ◌||◌, eqb, List, [], ◌∷◌, ◌++◌, length, get_or, take, drop, Some, None, sym, refl, ap, ◌∙◌, inl, inr, arith, length-append, subst, Option}
 use lib.Seq.{take-nil}
 use Rattle.std.proofs.lemmas.List.{length-drop, take_all, take_rest, drop_all}
 use Rattle.std.proofs.lemmas.Bool.{and_parts, false≢true, cases_lt}
 use Rattle.std.proofs.lemmas.Bool.Decides.{nat_tests}
 use Rattle.rules.specs.Bytes.{blank, name_byte, all}
 use Rattle.rules.specs.Markup.{amp, lt, gt, quot, apos, Piece, plain, escaped, piece_ok, piece_text, pieces_text, Quote, single, double, quote_byte, Attribute, attribute_ok, attribute_text, attributes_text, name_ok}
-use Rattle.tags.specs.Scan.{front, other}
+use Rattle.std.specs.List.{prefix_len}
+use Rattle.byte_classes.specs.Runs.{other}
 use Rattle.theory.specs.On.{stops, closes, pieces_on, attribute_on, attributes_on}
 use Rattle.theory.proofs.Lists.{all_append}
 use Rattle.theory.proofs.Unique.{pieces_on_is, attribute_on_is}
 use Rattle.tags.specs.Spans.{part, spans, name_span, value_span}
+use Rattle.tags.specs.Attributes.{Reads}
 use Rattle.tags.specs.declared.attributes.AttributeSpan.{AttributeSpan}
 use Rattle.tags.proofs.Fronts.{past, cut, scanned, lies_less, lies_head, lies_next}
 
@@ -84,8 +86,8 @@ pub record Steps (d : List ℕ) (at name stop equals quote close : ℕ) (a : Att
   pub at_close : drop close d ≡ quote_byte a.quote ∷ rest
   pub close_in : close < length d
 
-pub steps : (d : List ℕ) (at name stop equals quote close : ℕ) → name ≡ at + front blank (drop at d) → stop ≡ name + front name_byte (drop name d) → equals ≡ stop + front blank (drop stop d) →
-    quote ≡ equals + 1 + front blank (drop (equals + 1) d) → close ≡ quote + 1 + front (other (get_or d quote 0)) (drop (quote + 1) d) →
+pub steps : (d : List ℕ) (at name stop equals quote close : ℕ) → name ≡ at + prefix_len blank (drop at d) → stop ≡ name + prefix_len name_byte (drop name d) → equals ≡ stop + prefix_len blank (drop stop d) →
+    quote ≡ equals + 1 + prefix_len blank (drop (equals + 1) d) → close ≡ quote + 1 + prefix_len (other (get_or d quote 0)) (drop (quote + 1) d) →
     (a : Attribute) (rest : List ℕ) → attribute_ok a ≡ true → drop at d ≡ attribute_on a rest → Steps d at name stop equals quote close a rest
 steps d at name stop equals quote close h₁ h₂ h₃ h₄ h₅ a rest ok e =
     let (ob, o₁) = and_parts _ _ ok in
@@ -99,7 +101,7 @@ steps d at name stop equals quote close h₁ h₂ h₃ h₄ h₅ a rest ok e =
     let (p₄, e₄) = scanned blank d a.right _ (equals + 1) quote h₄ or (quote_stops a.quote (pieces_on a.value (quote_byte a.quote ∷ rest))) f₃ in
     let f₄ = lies_next d _ (quote_byte a.quote) quote e₄ in
     let q : get_or d quote 0 ≡ quote_byte a.quote = lies_head d _ (quote_byte a.quote) quote e₄ in
-    let h : close ≡ quote + 1 + front (other (quote_byte a.quote)) (drop (quote + 1) d) = h₅ ∙ ap (λ x. quote + 1 + front (other x) (drop (quote + 1) d)) q in
+    let h : close ≡ quote + 1 + prefix_len (other (quote_byte a.quote)) (drop (quote + 1) d) = h₅ ∙ ap (λ x. quote + 1 + prefix_len (other x) (drop (quote + 1) d)) q in
     let (p₅, e₅) = scanned (other (quote_byte a.quote)) d (pieces_text a.value) (quote_byte a.quote ∷ rest) (quote + 1) close h (pieces_plain a.quote a.value ov) (to_quote a.quote rest) (f₄ ∙ sym (pieces_on_is a.value _)) in
     let (b, bs, y, n) = name_first a.name _ on in
     record { name_is = p₁; at_name = e₁; name_in = lies_less d bs b name (e₁ ∙ y); name_byte = ap name_byte (lies_head d bs b name (e₁ ∙ y)) ∙ n; stop_is = p₂; equals_is = p₃; at_equals = e₃; equals_in = lies_less d _ _ equals e₃; quote_is = p₄; at_quote = e₄; quote_in = lies_less d _ _ quote e₄; close_is = p₅; at_close = e₅; close_in = lies_less d _ _ close e₅ }
@@ -113,7 +115,7 @@ spans_are d at name stop equals quote close a rest s =
     λ i. record { name = record { start = s.name_is i; end = e₁ i }; value = record { start = e₂ i; end = e₃ i } }
 
 -- what the scans meet where the tag ends
-pub tag_ends : (d : List ℕ) (at name : ℕ) → name ≡ at + front blank (drop at d) → (g z : List ℕ) → all blank g ≡ true → closes z ≡ true → drop at d ≡ g ++ z →
+pub tag_ends : (d : List ℕ) (at name : ℕ) → name ≡ at + prefix_len blank (drop at d) → (g z : List ℕ) → all blank g ≡ true → closes z ≡ true → drop at d ≡ g ++ z →
     (name ≡ at + length g) × (name < length d) × ((eqb (get_or d name 0) 47 || eqb (get_or d name 0) 62) ≡ true)
 tag_ends d at name h g z hg hz e =
     let (p, f) = scanned blank d g z at name h hg (closes_blank z hz) e in
@@ -123,6 +125,10 @@ tag_ends d at name h g z hg hz e =
 
 pub attribute_length : (a : Attribute) → length (attribute_text a) ≡ length a.before + length a.name + length a.left + 1 + length a.right + 1 + length (pieces_text a.value) + 1
 attribute_length a = simp length-append (omega arith)
+
+-- what is read at a place, by another name of the document and of the place
+pub reads_at : {d d' : List ℕ} {i i' : ℕ} {r : Option AttributeSpan} → Reads d i r → d ≡ d' → i ≡ i' → Reads d' i' r
+reads_at {d} {d'} {i} {i'} {r} h p q = subst (λ n. Reads d' n r) q (subst (λ x. Reads x i r) p h)
 
 -- what is left after one attribute more
 pub more_attributes : (d : List ℕ) (i : ℕ) (x : AttributeSpan) (l : List Attribute) (g z : List ℕ) → all attribute_ok l ≡ true → all blank g ≡ true → closes z ≡ true → drop i d ≡ attributes_on l (g ++ z) →

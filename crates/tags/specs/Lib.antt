@@ -1,2 +1,3 @@
 pub mod Scan
 pub mod Spans
+pub mod Attributes

@@ -1,14 +1,5 @@
--- Runs of bytes at the front of what is left of a text.
-use Rattle.std.specs.Prelude.{ℕ, ◌+◌, Bool, true, cond, not, List, [], ◌∷◌, ◌==◌}
-
--- how many bytes at the front pass a test
-abbrev pub front : (ℕ → Bool) → List ℕ → ℕ
-front p [] = 0
-front p (b ∷ bs) = cond (p b) (1 + front p bs) 0
-
--- any byte but q
-abbrev pub other : ℕ → ℕ → Bool
-other q b = not (b == q)
+-- What is left of a text from a place on.
+use Rattle.std.specs.Prelude.{ℕ, ◌+◌, Bool, true, cond, List, [], ◌∷◌, ◌==◌}
 
 -- how many bytes there are up to the first q and with it, or all where there is none
 abbrev pub through : ℕ → List ℕ → ℕ

@@ -1,11 +1,13 @@
 // The attributes of a tag, by their places.
 ghost use Rattle.std.specs.Prelude.{◌≡◌, ℕ, ◌+◌, ◌≤◌, Bool, true, List, ◌++◌, length, drop, IfSome, Some, None};
+ghost use Rattle.std.specs.Iterator.{at_most};
 ghost use Rattle.rules.specs.Bytes.{blank, all};
 ghost use Rattle.rules.specs.Markup.{Attribute, attribute_ok, attributes_text};
 ghost use Rattle.theory.specs.On.{attribute_on, attributes_on, closes};
 ghost use Rattle.tags.specs.Spans.{part, spans, Inside};
+ghost use Rattle.tags.specs.Attributes.{Gives, left};
 
-use crate::scan::{skip_blanks, skip_name, skip_to};
+use byte_classes::{Blank, NameByte, Other, skip};
 
 /// A part of a document, from one place up to another.
 #[derive(Clone, Copy, Debug, PartialEq, Eq)]
@@ -38,34 +40,57 @@ pub fn attribute(document: &[u8], at: usize) -> Option<AttributeSpan>
     ensures reads { (a : Attribute) (rest : List ℕ) → attribute_ok a ≡ true → drop at document.now ≡ attribute_on a rest → result ≡ Some (spans at a) }
     ensures none { (g z : List ℕ) → all blank g ≡ true → closes z ≡ true → drop at document.now ≡ g ++ z → result ≡ None }
 {
-    let name = skip_blanks(document, at);
-    if name >= document.len() || document[name] == b'/' || document[name] == b'>' {
+    let start = skip(Blank, document, at);
+    if matches!(document.get(start)?, b'/' | b'>') {
         return None;
     }
-    let stop = skip_name(document, name);
-    let equals = skip_blanks(document, stop);
-    if equals >= document.len() {
-        return None;
-    }
-    let quote = skip_blanks(document, equals + 1);
-    if quote >= document.len() {
-        return None;
-    }
-    let value = quote + 1;
-    let close = skip_to(document, value, document[quote]);
-    if close >= document.len() {
+    let end = skip(NameByte, document, start);
+    let equals = skip(Blank, document, end);
+    let opening = skip(Blank, document, equals + 1);
+    let quote = *document.get(opening)?;
+    let value = opening + 1;
+    let closing = skip(Other(quote), document, value);
+    if closing >= document.len() {
         return None;
     }
     Some(AttributeSpan {
-        name: Span {
-            start: name,
-            end: stop,
-        },
+        name: Span { start, end },
         value: Span {
             start: value,
-            end: close,
+            end: closing,
         },
     })
+}
+
+/// The attributes of a tag, in their order.
+#[derive(Clone, Copy, Debug)]
+pub struct Attributes<'a> {
+    document: &'a [u8],
+    at: usize,
+}
+
+impl<'a> Attributes<'a> {
+    /// Those of the tag whose attributes begin at `at`.
+    pub fn new(document: &'a [u8], at: usize) -> Attributes<'a>
+        ensures same { result.document.now ≡ document.now }
+        ensures begins { result.at ≡ at }
+    {
+        Attributes { document, at }
+    }
+}
+
+impl Iterator for Attributes<'_> {
+    type Item = AttributeSpan;
+
+    ghost next_gives = { Gives };
+
+    ghost remaining = { λ w. at_most (left w) };
+
+    fn next(&mut self) -> Option<AttributeSpan> {
+        let next = attribute(self.document, self.at)?;
+        self.at = next.value.end + 1;
+        Some(next)
+    }
 }
 
 /// Where the `/` or `>` of the tag stands whose attributes begin at `at`; past the end of the document, `at` itself.
@@ -75,8 +100,8 @@ pub fn tag_end(document: &[u8], at: usize) -> usize
     ensures reads { (l : List Attribute) (g z : List ℕ) → all attribute_ok l ≡ true → all blank g ≡ true → closes z ≡ true → drop at document.now ≡ attributes_on l (g ++ z) → result ≡ at + length (attributes_text l) + length g }
 {
     let mut i = at;
-    while let Some(a) = attribute(document, i) {
+    for a in Attributes::new(document, at) {
         i = a.value.end + 1;
     }
-    skip_blanks(document, i)
+    skip(Blank, document, i)
 }

@@ -1,4 +1,4 @@
-//! Going through the tags of a document: blanks, names, attributes and the ends of tags.
+//! Going through the tags of a document: attributes, and the ends of tags and of elements.
 #![tactic(auto)]
 
 mod attributes;
@@ -7,6 +7,6 @@ mod start;
 #[cfg(test)]
 mod tests;
 
-pub use attributes::{AttributeSpan, Span, attribute, tag_end};
-pub use scan::{after, closing, skip_blanks, skip_name, skip_to};
+pub use attributes::{AttributeSpan, Attributes, Span, attribute, tag_end};
+pub use scan::{after, closing};
 pub use start::content_start;

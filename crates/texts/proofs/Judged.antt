@@ -1,5 +1,5 @@
 -- What a document that has its shape gives to its texts.
-use Rattle.std.proofs.Common.{ℕ, ◌^◌, ◌<◌, ◌≤◌, List, length, ⊎_elim, arith}
+use Rattle.std.proofs.Common.{◌≡◌, ℕ, ◌^◌, ◌<◌, ◌≤◌, List, length, None, Ok, Err, OnOk, Result, refl, ⊎_elim, arith}
 use Rattle.std.proofs.lemmas.Bool.{cases_lt}
 use Rattle.rules.specs.Bytes.{Among}
 use Rattle.rules.specs.Markup.{Document, Marks}
@@ -8,7 +8,10 @@ use Rattle.rules.specs.Values.{Values}
 use Rattle.rules.specs.Texts.{cadena, fair_copy}
 use Rattle.rules.specs.Catalogues.{Facts}
 use Rattle.rules.specs.Grounds.{Standing, standing, NamesFault, too_long, HasValues, Shaped}
+use Rattle.rules.specs.Faults.{fault_of}
 use Rattle.rules.specs.declared.grounds.Fault.{Fault}
+use Rattle.theory.specs.Shape.{HasShape}
+use Rattle.layers.proofs.Shaping.{has_shape}
 use Rattle.theory.proofs.FairCopyLaws.{copy_reads_back, copy_stays_lawful, copy_never_longer}
 use Rattle.theory.proofs.ShapeLaws.{shape_letters, shape_clear, shape_whole, shape_shorter}
 use Rattle.walk.specs.Coming.{InOrder}
@@ -38,3 +41,8 @@ module _ (d : List ℕ) (shape : Shaped d) where
 -- the laws of the fair copy, of one document
 pub copy_law : (facts : Facts) (d : List ℕ) → CopyLaw facts d
 copy_law facts d v l h = record { reads_back = copy_reads_back facts d v l h; stays_lawful = copy_stays_lawful d v h facts l; never_longer = copy_never_longer facts d v l h }
+
+-- where no fault was found the document has its shape
+pub shape_told : (d : List ℕ) (found : Result (Unit {0}) Fault) → (fault_of found ≡ None → Shaped d) → OnOk found (HasShape d)
+shape_told d (Ok x) ok = has_shape d (ok refl)
+shape_told d (Err f) ok = tt

@@ -1,17 +1,18 @@
 -- What a call answers that sends a text of a document to a sink, or tells the length of its fair copy.
-use Rattle.std.specs.Prelude.{◌≡◌, ℕ, ◌≤◌, Bool, List, length, Ok, Err, Result}
+use Rattle.std.specs.Prelude.{◌≡◌, ℕ, ◌≤◌, List, length, Ok, Err, Result}
 use Rattle.rules.specs.Values.{Values}
 use Rattle.rules.specs.Texts.{fair_copy}
 use Rattle.rules.specs.Catalogues.{Facts}
 use Rattle.rules.specs.Grounds.{First, Lawful, HasValues}
 use Rattle.rules.specs.declared.grounds.Fault.{Fault}
-use Rattle.sinks.specs.Staying.{Staying, SentTo}
+use Rattle.sinks.specs.Sending.{SentTo}
+use Rattle.sinks.specs.declared.sink.Sink.{Ghosts}
 use Rattle.theory.specs.FairCopy.{ReadsBack}
 
 -- the first fault of the document, and the sink is as it was; or the document is lawful, and the text of its values is sent
-pub data Answered {S : Type 0} (taken : S → List ℕ) (allows : S → List ℕ → ℕ → Bool) (stays : Staying S) (facts : Facts) (d : List ℕ) (text : Values → List ℕ) (s : S) (r : Result (Unit {0}) Fault) (s' : S) : Type 0 where
-  refused : (f : Fault) → First facts d f → r ≡ Err f → s' ≡ s → Answered taken allows stays facts d text s r s'
-  sent : (v : Values) → Lawful facts d → HasValues d v → SentTo taken allows stays s (text v) r s' → Answered taken allows stays facts d text s r s'
+pub data Answered {S : Type 0} (sink : Ghosts S) (facts : Facts) (d : List ℕ) (text : Values → List ℕ) (s : S) (r : Result (Unit {0}) Fault) (s' : S) : Type 0 where
+  refused : (f : Fault) → First facts d f → r ≡ Err f → s' ≡ s → Answered sink facts d text s r s'
+  sent : (v : Values) → Lawful facts d → HasValues d v → SentTo sink s (text v) r s' → Answered sink facts d text s r s'
 
 -- the first fault of the document; or the document is lawful, and this is the length of the fair copy of its values
 pub data LengthAnswered (facts : Facts) (d : List ℕ) (r : Result ℕ Fault) : Type 0 where

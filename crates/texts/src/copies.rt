@@ -14,7 +14,7 @@ pub fn fair_copy<C: CatalogueSet, S: Sink>(
     set: &C,
     sink: &mut S,
 ) -> Result<(), Fault>
-    ensures answered { Answered S.Sink.taken S.Sink.allows S.Sink.stays (C.CatalogueSet.facts set.now) document.now fair_copy_of sink.old result sink.new }
+    ensures answered { Answered S.Sink (C.CatalogueSet.facts set.now) document.now fair_copy_of sink.old result sink.new }
     ensures law { CopyLaw (C.CatalogueSet.facts set.now) document.now }
 {
     check(document, set)?;

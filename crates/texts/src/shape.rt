@@ -1,5 +1,6 @@
 // A document that was read for its shape.
 ghost use Rattle.std.specs.Prelude.{◌≡◌, None};
+ghost use Rattle.rules.specs.Faults.{fault_of};
 ghost use Rattle.rules.specs.Grounds.{Shaped};
 
 use rules::Fault;
@@ -8,6 +9,6 @@ use rules::Fault;
 #[derive(Drop)]
 pub struct Shape<'a> {
     pub(crate) document: &'a [u8],
-    pub(crate) fault: Option<Fault>,
-    ghost ok: { fault ≡ None → Shaped document.now },
+    pub(crate) found: Result<(), Fault>,
+    ghost ok: { fault_of found ≡ None → Shaped document.now },
 }

@@ -17,34 +17,25 @@ impl<'a> Shape<'a> {
     /// Reads a document for its shape. It is never refused: the fault that was found, if any, is what the other calls answer.
     pub fn read(document: &'a [u8]) -> Shape<'a>
         ensures document { result.document.now ≡ document.now }
-        ensures judged { Judgement (ShapeFinds document.now) result.fault }
+        ensures judged { Judgement (ShapeFinds document.now) (fault_of result.found) }
     {
-        if let Err(fault) = judge_shape(document) {
-            return Shape {
-                document,
-                fault: Some(fault),
-            };
-        }
         Shape {
             document,
-            fault: None,
+            found: judge_shape(document),
         }
     }
 
     /// Whether the document has its shape; if not, its first fault.
     pub fn verdict(&self) -> Result<(), Fault>
-        ensures told { fault_of result ≡ self.now.fault }
+        ensures told { fault_of result ≡ fault_of self.now.found }
         ensures shape { OnOk result (HasShape self.now.document.now) }
     {
-        match self.fault {
-            Some(fault) => Err(fault),
-            None => Ok(()),
-        }
+        self.found
     }
 
     /// Sends the cadena of the document to a sink: its fault and nothing sent, else as much of the cadena as the sink takes.
     pub fn cadena<S: Sink>(&self, sink: &mut S) -> Result<(), Fault>
-        ensures { ShapeAnswered S.Sink.taken S.Sink.allows S.Sink.stays self.now.document.now self.now.fault cadena_of sink.old result sink.new }
+        ensures { ShapeAnswered S.Sink self.now.document.now (fault_of self.now.found) cadena_of sink.old result sink.new }
     {
         self.verdict()?;
         send_cadena(self.document, sink)
@@ -52,7 +43,7 @@ impl<'a> Shape<'a> {
 
     /// Sends the fair copy of the document to a sink, in the same way.
     pub fn fair_copy<S: Sink>(&self, sink: &mut S) -> Result<(), Fault>
-        ensures answered { ShapeAnswered S.Sink.taken S.Sink.allows S.Sink.stays self.now.document.now self.now.fault fair_copy_of sink.old result sink.new }
+        ensures answered { ShapeAnswered S.Sink self.now.document.now (fault_of self.now.found) fair_copy_of sink.old result sink.new }
         ensures law { ShapeCopyLaw self.now.document.now }
     {
         self.verdict()?;
@@ -61,7 +52,7 @@ impl<'a> Shape<'a> {
 
     /// How many bytes the fair copy of the document has, counted without writing it anywhere; or its fault.
     pub fn fair_copy_length(&self) -> Result<usize, Fault>
-        ensures { ShapeLength self.now.document.now self.now.fault result }
+        ensures { ShapeLength self.now.document.now (fault_of self.now.found) result }
     {
         self.verdict()?;
         Ok(fair::fair_copy_length(self.document))

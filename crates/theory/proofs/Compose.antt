@@ -5,7 +5,7 @@ use Rattle.std.proofs.lemmas.Bool.Decides.{nat_tests}
 use Rattle.rules.specs.Bytes.{Among}
 use Rattle.rules.specs.Faults.{Rank, rank, not_after, Judgement}
 use Rattle.rules.specs.declared.grounds.Fault.{Fault}
-use Rattle.theory.specs.Grounds.{Decided}
+use Rattle.theory.specs.Grounds.{Decided, Some_of}
 use Rattle.theory.proofs.Lists.{cons_head, cons_tail, among_nil, among_cons}
 
 -- a fault counts before another, or has its rank
@@ -98,10 +98,6 @@ or_else (Some f) b = Some f
 pub then_judged : (P Q : Fault → Type 0) → ((f g : Fault) → P f → Q g → Before f g) → (a b : Option Fault) → Judgement P a → Judgement Q b → Judgement (Either P Q) (or_else a b)
 then_judged P Q apart None b h k = judged_as Q (Either P Q) (λ f q. inr q) (λ f e. elim e [ inl x ↦ absurd (h f x) | inr y ↦ y ]) b k
 then_judged P Q apart (Some f) b h k = (inl h.0, λ g e. elim e [ inl x ↦ h.1 g x | inr y ↦ apart f g h.0 y ])
-
--- what is found at some part of a list
-abbrev pub Some_of : {S : Type 0} → (S → Fault → Type 0) → List S → Fault → Type 0
-Some_of {S} P ss f = (s : S) × Among s ss × P s f
 
 -- nothing is found in an empty list
 pub some_nil : {S : Type 0} (P : S → Fault → Type 0) (f : Fault) → Some_of P [] f → ⊥

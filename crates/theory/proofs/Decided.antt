@@ -15,11 +15,11 @@ use Rattle.rules.specs.declared.grounds.Rule.TheVariants as rule
 use Rattle.rules.specs.declared.grounds.Fault.{Fault}
 use Rattle.rules.specs.declared.grounds.Fault.TheVariants.{TooLong, BadLetter, AttributeRefused, AttributeMissing, NotAdmitted, NotInCatalogue, AccountBroken}
 use Rattle.rules.specs.declared.schema.Catalogue.{Catalogue}
-use Rattle.theory.specs.Grounds.{Decided, LayersDecided}
+use Rattle.theory.specs.Grounds.{Decided, LayersDecided, Some_of}
 use Rattle.theory.proofs.Options.{is_none}
 use Rattle.theory.proofs.CopyTree.{transfer}
 use Rattle.theory.proofs.Lists.{among_nil, among_cons}
-use Rattle.theory.proofs.Compose.{Where, where_judged, where_decided, Either, either_judged, either_decided, decided_as, Some_of, each_judged, Some_after, after_judged}
+use Rattle.theory.proofs.Compose.{Where, where_judged, where_decided, Either, either_judged, either_decided, decided_as, each_judged, Some_after, after_judged}
 use Rattle.theory.proofs.Spells.{spelled_up_to}
 use Rattle.theory.proofs.Trees.{tree_decided}
 use Rattle.theory.proofs.Rules.{every_rule, rule_listed}

@@ -5,7 +5,7 @@ use Rattle.std.proofs.lemmas.Bool.{cond-true, cond-false, and_parts, and_from, o
 use Rattle.std.proofs.lemmas.List.{drop-drop, drop_all}
 use Rattle.std.proofs.lemmas.Bool.Decides.{nat_tests}
 use Rattle.rules.specs.Bytes.{all, no_bar}
-use Rattle.rules.specs.Kinds.{after_whole, fraction_ok, alphanumeric, base64, rfc_mark, rfc_tail, rfc_after, day_ok, time_ok, date_time_ok, fixed_text, admits, part, keep, KindLaw}
+use Rattle.rules.specs.Kinds.{after_whole, fraction_ok, alphanumeric, base64, rfc_mark, rfc_tail, rfc_after, day_ok, time_ok, date_time_ok, numeral_in, fixed_text, admits, part, keep, KindLaw}
 use Rattle.rules.specs.declared.schema.Kind.{Kind}
 use Rattle.rules.specs.declared.schema.Kind.TheVariants.{Fixed, Text, Amount, Positive, DateTime, Digits, Mark, Rfc, Seal, Code}
 use Rattle.theory.proofs.Lists.{all_with}
@@ -26,19 +26,6 @@ base64_no_bar b h = grind (arith, nat_tests)
 rfc_mark_no_bar : (b : ℕ) → rfc_mark b ≡ true → no_bar b ≡ true
 rfc_mark_no_bar b h = grind (arith, nat_tests)
 
--- an amount has no bar
-amount_no_bar : (s : List ℕ) → fraction_ok (after_whole s) ≡ true → all no_bar s ≡ true
-amount_no_bar [] h = refl
-amount_no_bar (b ∷ bs) h =
-    ⊎_elim
-    (λ e. and_from _ _ (digit_no_bar b e) (amount_no_bar bs (sym (ap fraction_ok (cond-true (is_ascii_digit b) _ _ e)) ∙ h)))
-    (λ e.
-    let h' : fraction_ok (b ∷ bs) ≡ true = sym (ap fraction_ok (cond-false (is_ascii_digit b) _ _ e)) ∙ h in
-    let (u, v) = and_parts _ _ h' in
-    let w : b ≡ 46 = eqb-true b 46 u in
-    and_from _ _ (grind (arith, nat_tests)) (all_with is_ascii_digit no_bar digit_no_bar bs (and_parts _ _ v).0))
-    (cases_Bool (is_ascii_digit b))
-
 -- a text part by part: n bytes from m on, and one byte at m
 pub part_then : (p : ℕ → Bool) (m n : ℕ) (s : List ℕ) → all p (take n (drop m s)) ≡ true → all p (drop (m + n) s) ≡ true → all p (drop m s) ≡ true
 part_then p m n s h k = go n (drop m s) h (rw drop-drop k)
@@ -54,53 +41,74 @@ byte_then p zero (b ∷ s) h k = and_from _ _ h k
 byte_then p (suc m) [] h k = refl
 byte_then p (suc m) (b ∷ s) h k = byte_then p m s h k
 
--- a byte that is another one is no bar where that is none
-equal_no_bar : (b c : ℕ) → no_bar c ≡ true → eqb b c ≡ true → no_bar b ≡ true
-equal_no_bar b c h e = rw (eqb-true b c e) h
+-- a byte that is another one passes a test where that one does
+equal_passes : (p : ℕ → Bool) (b c : ℕ) → p c ≡ true → eqb b c ≡ true → p b ≡ true
+equal_passes p b c h e = rw (eqb-true b c e) h
 
 -- nothing stands past the end of a text
 pub nothing_after : (p : ℕ → Bool) (n : ℕ) (s : List ℕ) → eqb (length s) n ≡ true → all p (drop n s) ≡ true
 nothing_after p n s e = rw (drop_all n s (omega (arith, eqb-true _ _ e))) refl
 
+-- the texts whose bytes all pass a test that digits pass
+module _ (p : ℕ → Bool) (digit : (b : ℕ) → is_ascii_digit b ≡ true → p b ≡ true) where
+  pub digits_pass : (s : List ℕ) → all is_ascii_digit s ≡ true → all p s ≡ true
+  digits_pass s h = all_with is_ascii_digit p digit s h
+
+  -- an amount, where the point passes
+  pub amount_passes : p 46 ≡ true → (s : List ℕ) → fraction_ok (after_whole s) ≡ true → all p s ≡ true
+  amount_passes point [] h = refl
+  amount_passes point (b ∷ bs) h =
+      ⊎_elim
+      (λ e. and_from _ _ (digit b e) (amount_passes point bs (sym (ap fraction_ok (cond-true (is_ascii_digit b) _ _ e)) ∙ h)))
+      (λ e.
+      let h' : fraction_ok (b ∷ bs) ≡ true = sym (ap fraction_ok (cond-false (is_ascii_digit b) _ _ e)) ∙ h in
+      let (u, v) = and_parts _ _ h' in
+      and_from _ _ (equal_passes p b 46 point u) (digits_pass bs (and_parts _ _ v).0))
+      (cases_Bool (is_ascii_digit b))
+
+  -- a numeral that stands in a text, and what follows it
+  numeral_then : (lo hi m n : ℕ) (s : List ℕ) → numeral_in lo hi (part m n s) ≡ true → all p (drop (m + n) s) ≡ true → all p (drop m s) ≡ true
+  numeral_then lo hi m n s h k = part_then p m n s (digits_pass (part m n s) (and_parts _ _ h).0) k
+
+  -- a day, where '-' passes
+  pub day_passes : p 45 ≡ true → (s : List ℕ) → day_ok s ≡ true → all p s ≡ true
+  day_passes dash s h =
+      let (l, h₁) = and_parts _ _ h in
+      let (y, h₂) = and_parts _ _ h₁ in
+      let (a, h₃) = and_parts _ _ h₂ in
+      let (m, h₄) = and_parts _ _ h₃ in
+      let (b, d) = and_parts _ _ h₄ in
+      numeral_then _ _ 0 4 s y
+      (byte_then p 4 s (equal_passes p (get_or s 4 0) 45 dash a)
+      (numeral_then _ _ 5 2 s m
+      (byte_then p 7 s (equal_passes p (get_or s 7 0) 45 dash b)
+      (numeral_then _ _ 8 2 s d (nothing_after p 10 s l)))))
+
+  -- a time, where ':' passes
+  pub time_passes : p 58 ≡ true → (s : List ℕ) → time_ok s ≡ true → all p s ≡ true
+  time_passes colon s h =
+      let (l, h₁) = and_parts _ _ h in
+      let (y, h₂) = and_parts _ _ h₁ in
+      let (a, h₃) = and_parts _ _ h₂ in
+      let (m, h₄) = and_parts _ _ h₃ in
+      let (b, d) = and_parts _ _ h₄ in
+      numeral_then _ _ 0 2 s y
+      (byte_then p 2 s (equal_passes p (get_or s 2 0) 58 colon a)
+      (numeral_then _ _ 3 2 s m
+      (byte_then p 5 s (equal_passes p (get_or s 5 0) 58 colon b)
+      (numeral_then _ _ 6 2 s d (nothing_after p 8 s l)))))
+
+  -- a day and a time, where '-', ':' and 'T' pass
+  pub date_time_passes : p 45 ≡ true → p 58 ≡ true → p 84 ≡ true → (s : List ℕ) → date_time_ok s ≡ true → all p s ≡ true
+  date_time_passes dash colon t s h =
+      let (l, h₁) = and_parts _ _ h in
+      let (y, h₂) = and_parts _ _ h₁ in
+      let (a, h₃) = and_parts _ _ h₂ in
+      part_then p 0 10 s (day_passes dash (part 0 10 s) y) (byte_then p 10 s (equal_passes p (get_or s 10 0) 84 t a) (time_passes colon (drop 11 s) h₃))
+
 -- digits have no bar
 digits_no_bar : (s : List ℕ) → all is_ascii_digit s ≡ true → all no_bar s ≡ true
-digits_no_bar s h = all_with is_ascii_digit no_bar digit_no_bar s h
-
--- a day has no bar
-day_no_bar : (s : List ℕ) → day_ok s ≡ true → all no_bar s ≡ true
-day_no_bar s h =
-    let (l, h₁) = and_parts _ _ h in
-    let (y, h₂) = and_parts _ _ h₁ in
-    let (a, h₃) = and_parts _ _ h₂ in
-    let (m, h₄) = and_parts _ _ h₃ in
-    let (b, d) = and_parts _ _ h₄ in
-    part_then no_bar 0 4 s (digits_no_bar (part 0 4 s) (and_parts _ _ y).0)
-    (byte_then no_bar 4 s (equal_no_bar (get_or s 4 0) 45 refl a)
-    (part_then no_bar 5 2 s (digits_no_bar (part 5 2 s) (and_parts _ _ m).0)
-    (byte_then no_bar 7 s (equal_no_bar (get_or s 7 0) 45 refl b)
-    (part_then no_bar 8 2 s (digits_no_bar (part 8 2 s) (and_parts _ _ d).0) (nothing_after no_bar 10 s l)))))
-
--- a time has no bar
-time_no_bar : (s : List ℕ) → time_ok s ≡ true → all no_bar s ≡ true
-time_no_bar s h =
-    let (l, h₁) = and_parts _ _ h in
-    let (y, h₂) = and_parts _ _ h₁ in
-    let (a, h₃) = and_parts _ _ h₂ in
-    let (m, h₄) = and_parts _ _ h₃ in
-    let (b, d) = and_parts _ _ h₄ in
-    part_then no_bar 0 2 s (digits_no_bar (part 0 2 s) (and_parts _ _ y).0)
-    (byte_then no_bar 2 s (equal_no_bar (get_or s 2 0) 58 refl a)
-    (part_then no_bar 3 2 s (digits_no_bar (part 3 2 s) (and_parts _ _ m).0)
-    (byte_then no_bar 5 s (equal_no_bar (get_or s 5 0) 58 refl b)
-    (part_then no_bar 6 2 s (digits_no_bar (part 6 2 s) (and_parts _ _ d).0) (nothing_after no_bar 8 s l)))))
-
--- a day and a time have no bar
-date_time_no_bar : (s : List ℕ) → date_time_ok s ≡ true → all no_bar s ≡ true
-date_time_no_bar s h =
-    let (l, h₁) = and_parts _ _ h in
-    let (y, h₂) = and_parts _ _ h₁ in
-    let (a, h₃) = and_parts _ _ h₂ in
-    part_then no_bar 0 10 s (day_no_bar (part 0 10 s) y) (byte_then no_bar 10 s (equal_no_bar (get_or s 10 0) 84 refl a) (time_no_bar (drop 11 s) h₃))
+digits_no_bar s h = digits_pass no_bar digit_no_bar s h
 
 -- the end of an RFC has no bar
 rfc_tail_no_bar : (s : List ℕ) → rfc_tail s ≡ true → all no_bar s ≡ true
@@ -114,7 +122,7 @@ rfc_tail_no_bar s h =
     (part_then no_bar 2 2 s (digits_no_bar (part 2 2 s) (and_parts _ _ m).0)
     (part_then no_bar 4 2 s (digits_no_bar (part 4 2 s) (and_parts _ _ d).0)
     (part_then no_bar 6 2 s (all_with rfc_mark no_bar rfc_mark_no_bar (part 6 2 s) x)
-    (byte_then no_bar 8 s (⊎_elim (digit_no_bar (get_or s 8 0)) (equal_no_bar (get_or s 8 0) 65 refl) (or_cases _ _ z)) (nothing_after no_bar 9 s l)))))
+    (byte_then no_bar 8 s (⊎_elim (digit_no_bar (get_or s 8 0)) (equal_passes no_bar (get_or s 8 0) 65 refl) (or_cases _ _ z)) (nothing_after no_bar 9 s l)))))
 
 -- an RFC has no bar
 rfc_no_bar : (n : ℕ) (s : List ℕ) → rfc_after n s ≡ true → all no_bar s ≡ true
@@ -128,7 +136,7 @@ rfc_no_bar (suc n) (b ∷ c ∷ s) h =
     let h' : (eqb b 195 && (eqb c 145 && rfc_after n s)) ≡ true = sym (cond-false (is_ascii_uppercase b || eqb b 38) _ _ e) ∙ h in
     let (u, h₁) = and_parts _ _ h' in
     let (v, h₂) = and_parts _ _ h₁ in
-    and_from _ _ (equal_no_bar b 195 refl u) (and_from _ _ (equal_no_bar c 145 refl v) (rfc_no_bar n s h₂)))
+    and_from _ _ (equal_passes no_bar b 195 refl u) (and_from _ _ (equal_passes no_bar c 145 refl v) (rfc_no_bar n s h₂)))
     (cases_Bool (is_ascii_uppercase b || eqb b 38))
   where
     letter_no_bar : (b : ℕ) → (is_ascii_uppercase b || eqb b 38) ≡ true → no_bar b ≡ true
@@ -138,9 +146,9 @@ rfc_no_bar (suc n) (b ∷ c ∷ s) h =
 pub admitted_no_bar : (k : Kind) (s : List ℕ) → admits k s ≡ true → all no_bar s ≡ true
 admitted_no_bar (Fixed t) s h = rw (same_is s (fixed_text t) h) (fixed_texts t).without_bar
 admitted_no_bar (Text n) s h = (and_parts _ _ h).1
-admitted_no_bar Amount s h = amount_no_bar s (and_parts _ _ h).1
-admitted_no_bar Positive s h = amount_no_bar s (and_parts _ _ (and_parts _ _ h).0).1
-admitted_no_bar DateTime s h = date_time_no_bar s h
+admitted_no_bar Amount s h = amount_passes no_bar digit_no_bar refl s (and_parts _ _ h).1
+admitted_no_bar Positive s h = amount_passes no_bar digit_no_bar refl s (and_parts _ _ (and_parts _ _ h).0).1
+admitted_no_bar DateTime s h = date_time_passes no_bar digit_no_bar refl refl refl s h
 admitted_no_bar (Digits n) s h = digits_no_bar s (and_parts _ _ h).1
 admitted_no_bar Mark s h = all_with alphanumeric no_bar alphanumeric_no_bar s (and_parts _ _ h).1
 admitted_no_bar Rfc s h = ⊎_elim (rfc_no_bar 3 s) (rfc_no_bar 4 s) (or_cases _ _ h)

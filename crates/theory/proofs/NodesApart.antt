@@ -11,7 +11,8 @@ use Rattle.rules.specs.declared.grounds.Fault.{Fault}
 use Rattle.rules.specs.declared.schema.Node.{Node}
 use Rattle.theory.proofs.Lists.{among_nil, among_cons}
 use Rattle.theory.proofs.Shorter.{attribute_size}
-use Rattle.theory.proofs.Compose.{Some_of, first_found, In, Apart, apart_judged}
+use Rattle.theory.proofs.Compose.{first_found, In, Apart, apart_judged}
+use Rattle.theory.specs.Grounds.{Some_of}
 
 -- both places of an attribute lie within the text of its tag's attributes
 pub record Inside (lo hi : ℕ) (g : Given) : Type 0 where

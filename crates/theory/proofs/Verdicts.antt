@@ -9,9 +9,9 @@ use Rattle.rules.specs.Faults.{rank, Judgement}
 use Rattle.rules.specs.Grounds.{LettersFault, MarkupFault, not_well_marked, TreeFault, standing, NamesFault, ValuesFault, AccountFault, decimals, Finds, letters, markup, tree, names, values, accounts, Verdict}
 use Rattle.rules.specs.declared.grounds.Fault.{Fault}
 use Rattle.rules.specs.declared.grounds.Fault.TheVariants.{NotWellMarked}
-use Rattle.theory.specs.Grounds.{Decided}
+use Rattle.theory.specs.Grounds.{Decided, Some_of}
 use Rattle.theory.proofs.Unique.{same_tree}
-use Rattle.theory.proofs.Compose.{Before, before_itself, lower_layer, judged_as, or_else, Either, then_judged, Some_of, each_decided}
+use Rattle.theory.proofs.Compose.{Before, before_itself, lower_layer, judged_as, or_else, Either, then_judged, each_decided}
 use Rattle.theory.proofs.FirstLaws.{letters_layer, markup_layer, tree_layer, names_layer, values_layer, accounts_layer}
 use Rattle.theory.proofs.Decided.{layers_decided}
 

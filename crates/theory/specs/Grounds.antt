@@ -1,5 +1,6 @@
 -- The laws of verdicts.
 use Rattle.std.specs.Prelude.{◌≡◌, ℕ, List, Option}
+use Rattle.rules.specs.Bytes.{Among}
 use Rattle.rules.specs.Located.{Elements}
 use Rattle.rules.specs.Values.{Values}
 use Rattle.rules.specs.Faults.{Judgement}
@@ -11,6 +12,10 @@ use Rattle.rules.specs.declared.schema.Node.{Node}
 -- whether something is found is decided, and which of it is the first
 abbrev pub Decided : (Fault → Type 0) → Type 0
 Decided Found = (o : Option Fault) × Judgement Found o
+
+-- what is found at some part of a list
+abbrev pub Some_of : {S : Type 0} → (S → Fault → Type 0) → List S → Fault → Type 0
+Some_of {S} P ss f = (s : S) × Among s ss × P s f
 
 -- the layers are decided, each with no regard to the others: letters, tree, the names and values of each node, accounts
 pub record LayersDecided : Type 0 where

@@ -29,15 +29,13 @@ impl From<Finding> for ValueFault {
 pub fn judge<C: CatalogueSet>(set: &C, kind: Kind, raw: &[u8]) -> Result<Option<u8>, ValueFault>
     ensures { Judged (C.CatalogueSet.facts set.now) kind (resolved raw.now) result }
 {
-    if let Kind::Code(catalogue) = kind {
-        let Some(text) = code(raw) else {
-            return Err(ValueFault::NotAdmitted);
-        };
-        let decimals = look_up(set, catalogue, text)?;
-        return Ok(Some(decimals));
+    match kind {
+        Kind::Code(catalogue) => {
+            let text = code(raw).ok_or(ValueFault::NotAdmitted)?;
+            let decimals = look_up(set, catalogue, text)?;
+            Ok(Some(decimals))
+        }
+        _ if admits(kind, raw) => Ok(None),
+        _ => Err(ValueFault::NotAdmitted),
     }
-    if admits(kind, raw) {
-        return Ok(None);
-    }
-    Err(ValueFault::NotAdmitted)
 }

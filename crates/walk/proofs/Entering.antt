@@ -12,7 +12,9 @@ use Rattle.rules.specs.declared.schema.Node.{Node}
 use Rattle.theory.specs.On.{attributes_on, tag_on, content_on, closes, stops}
 use Rattle.theory.specs.Schema.{parent}
 use Rattle.theory.proofs.SchemaLaws.{one_parent}
-use Rattle.tags.specs.Scan.{front, other, ended}
+use Rattle.tags.specs.Scan.{ended}
+use Rattle.std.specs.List.{prefix_len}
+use Rattle.byte_classes.specs.Runs.{other}
 use Rattle.walk.specs.Events.{no_element}
 use Rattle.tags.proofs.Fronts.{past, scanned, lies_next}
 use Rattle.tags.proofs.Parts.{blanks_stop}
@@ -54,7 +56,7 @@ pub record TagRead (d : List ℕ) (place attributes close : ℕ) (t : Tag) (z : 
   pub tag_ends : close ≡ place + length (tag_text t)
   pub end_lies : drop close d ≡ z
 
-pub tag_read : (d : List ℕ) (place attributes close : ℕ) (t : Tag) (z : List ℕ) → attributes ≡ place + 1 + front name_byte (drop (place + 1) d) → Reads d attributes close → tag_ok t ≡ true → closes z ≡ true → drop place d ≡ tag_on t z →
+pub tag_read : (d : List ℕ) (place attributes close : ℕ) (t : Tag) (z : List ℕ) → attributes ≡ place + 1 + prefix_len name_byte (drop (place + 1) d) → Reads d attributes close → tag_ok t ≡ true → closes z ≡ true → drop place d ≡ tag_on t z →
     TagRead d place attributes close t z
 tag_read d place attributes close t z hs reads ok hz e =
     let (on, o₁) = and_parts (name_ok t.name) _ ok in
@@ -85,7 +87,7 @@ name_ended [] r h = absurd (false≢true h)
 name_ended (b ∷ bs) r h = let u : name_byte b ≡ true = (and_parts _ _ h).0 in grind (arith, nat_tests)
 
 -- whether no element stands in a node, by the bytes after the blanks
-pub holds_none : (d : List ℕ) (i j : ℕ) (r : List ℕ) (n : ℕ) (c : Content) → j ≡ i + front blank (drop i d) → content_ok n c ≡ true → drop i d ≡ content_on c (60 ∷ 47 ∷ r) → no_element (located i c) ≡ ended (drop j d)
+pub holds_none : (d : List ℕ) (i j : ℕ) (r : List ℕ) (n : ℕ) (c : Content) → j ≡ i + prefix_len blank (drop i d) → content_ok n c ≡ true → drop i d ≡ content_on c (60 ∷ 47 ∷ r) → no_element (located i c) ≡ ended (drop j d)
 holds_none d i j r n (end b) hj h e = let (p, f) = scanned blank d b _ i j hj h refl e in sym (ap ended f)
 holds_none d i j r zero (empty b t after) hj h e = absurd (false≢true h)
 holds_none d i j r (suc n) (empty b t after) hj h e =

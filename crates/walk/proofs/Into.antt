@@ -7,14 +7,17 @@ use Rattle.rules.specs.Located.{Given, givens, none, located}
 use Rattle.rules.specs.Values.{placed}
 use Rattle.rules.specs.declared.schema.Node.{Node}
 use Rattle.theory.specs.On.{tag_on, content_on, closes}
-use Rattle.tags.specs.Scan.{front, other, ended}
+use Rattle.tags.specs.Scan.{ended}
+use Rattle.std.specs.List.{prefix_len}
+use Rattle.byte_classes.specs.Runs.{other}
 use Rattle.walk.specs.Events.{Start, start, Occurrence, opened, closed, met_at, met_under, told, Tagged, no_element}
-use Rattle.walk.specs.Coming.{Placed, Follows, ends, Coming, Reached, Turns, shuts}
-use Rattle.walk.specs.declared.turn.Turn.{Turn}
+use Rattle.walk.specs.Coming.{Placed, Follows, ends, Coming, Gives, shuts}
+use Rattle.walk.specs.declared.cursor.Walk.{Walk}
+use Rattle.walk.specs.declared.event.Event.{Event}
 use Rattle.walk.specs.declared.event.Event.TheVariants.{Opened}
 use Rattle.tags.proofs.Fronts.{scanned, lies_less, lies_head, lies_next}
 use Rattle.theory.proofs.Lists.{all_append as all-++}
-use Rattle.walk.proofs.Leaving.{follows_stops, follows_shuts}
+use Rattle.walk.proofs.Leaving.{follows_stops, follows_shuts, comes_to}
 use Rattle.walk.proofs.Entering.{placed_parent, Reads, TagRead, tag_read, six_length, all_weaker, name_other, blank_other, holds_none}
 
 -- the start tag of the node k has been read, whose end stands at close with a byte, and what comes after it begins at next
@@ -33,10 +36,10 @@ pub record Entered (d : List ℕ) (place attributes close : ℕ) (p : Option Nod
   pub is_placed : placed p (take (attributes - (place + 1)) (drop (place + 1) d)) ≡ Some k
   pub within : close < length d
   pub shape : Into d place attributes close k os 47 close true
-      ⊎ ((i : ℕ) (bare : Bool) → i ≡ close + 1 + front blank (drop (close + 1) d) → bare ≡ ended (drop i d) → Into d place attributes close k os 62 (close + 1) bare)
+      ⊎ ((i : ℕ) (bare : Bool) → i ≡ close + 1 + prefix_len blank (drop (close + 1) d) → bare ≡ ended (drop i d) → Into d place attributes close k os 62 (close + 1) bare)
 
-module _ (d : List ℕ) (at place attributes close : ℕ) (p : Option Node) (os more : List Occurrence) (rest : List ℕ) (hp : place ≡ at + front blank (drop at d))
-    (ha : attributes ≡ place + 1 + front name_byte (drop (place + 1) d)) (reads : Reads d attributes close) (shut : shuts (drop place d) ≡ false) where
+module _ (d : List ℕ) (at place attributes close : ℕ) (p : Option Node) (os more : List Occurrence) (rest : List ℕ) (hp : place ≡ at + prefix_len blank (drop at d))
+    (ha : attributes ≡ place + 1 + prefix_len name_byte (drop (place + 1) d)) (reads : Reads d attributes close) (shut : shuts (drop place d) ≡ false) where
   -- the blanks before a tag, and the tag
   record Header (b : List ℕ) (t : Tag) (z : List ℕ) : Type 0 where
     begins : place ≡ at + length b
@@ -148,16 +151,16 @@ module _ (d : List ℕ) (at place attributes close : ℕ) (p : Option Node) (os 
         });
       }
 
-pub enters_from : (d : List ℕ) (place attributes close : ℕ) (p : Option Node) (os : List Occurrence) → Reached d place p os →
-    attributes ≡ place + 1 + front name_byte (drop (place + 1) d) → Reads d attributes close → shuts (drop place d) ≡ false → Entered d place attributes close p os
-enters_from d place attributes close p os h ha reads shut =
-    let co = h.coming in
-    enters d h.at place attributes close p os co.more co.rest h.passed ha reads shut co.depth co.content co.good co.shown co.nodes co.are co.follows
+pub enters_from : (d : List ℕ) (at place attributes close : ℕ) (p : Option Node) (os : List Occurrence) → Coming d at p os → place ≡ at + prefix_len blank (drop at d) →
+    attributes ≡ place + 1 + prefix_len name_byte (drop (place + 1) d) → Reads d attributes close → shuts (drop place d) ≡ false → Entered d place attributes close p os
+enters_from d at place attributes close p os co hp ha reads shut =
+    enters d at place attributes close p os co.more co.rest hp ha reads shut co.depth co.content co.good co.shown co.nodes co.are co.follows
 
-pub into_turns : (d : List ℕ) (place attributes close : ℕ) (k : Node) (os : List Occurrence) (byte next : ℕ) (bare : Bool) → Into d place attributes close k os byte next bare →
-    (node : Node) (at : ℕ) (childless : Bool) → k ≡ node → at ≡ next → childless ≡ bare →
-    Turns os d (Some (record { event = Opened (record { node = node; place = place; attributes = attributes; childless = childless }); at = at; «open» = Some node }))
-into_turns d place attributes close k os byte next bare z node at childless e f g =
-    let t : Turn = record { event = Opened (record { node = node; place = place; attributes = attributes; childless = childless }); at = at; «open» = Some node } in
-    let tells : t.event ≡ told (opened z.here) = (λ i. Opened (record { node = sym e i; place = place; attributes = attributes; childless = g i })) ∙ sym z.tells in
-    subst (λ x. Turns x d (Some t)) (sym z.are) (t, refl, tells, z.found, subst (λ x. Coming d x (Some node) z.others) (sym f) (subst (λ x. Coming d next (Some x) z.others) e z.comes))
+-- once that node is opened, a walk that has come to where the next begins has the others before it
+pub into_gives : (d : List ℕ) (place attributes close : ℕ) (k : Node) (os : List Occurrence) (byte next : ℕ) (bare : Bool) → Into d place attributes close k os byte next bare →
+    (node : Node) (childless : Bool) (w : Walk) → k ≡ node → childless ≡ bare → w.document.now ≡ d → w.at ≡ next → w.«open» ≡ Some node →
+    Gives os d (Some (Opened (record { node = node; place = place; attributes = attributes; childless = childless }))) w
+into_gives d place attributes close k os byte next bare z node childless w e f x y o =
+    let event : Event = Opened (record { node = node; place = place; attributes = attributes; childless = childless }) in
+    let tells : event ≡ told (opened z.here) = (λ i. Opened (record { node = sym e i; place = place; attributes = attributes; childless = f i })) ∙ sym z.tells in
+    subst (λ l. Gives l d (Some event) w) (sym z.are) (ap Some tells, z.found, comes_to w d next (Some k) z.others x y (o ∙ ap Some (sym e)) z.comes)

@@ -9,11 +9,13 @@ use Rattle.rules.specs.Located.{none, located}
 use Rattle.rules.specs.declared.schema.Node.{Node}
 use Rattle.theory.specs.On.{content_on, stops}
 use Rattle.theory.specs.Schema.{parent}
-use Rattle.tags.specs.Scan.{front, other, through}
+use Rattle.tags.specs.Scan.{through}
+use Rattle.std.specs.List.{prefix_len}
+use Rattle.byte_classes.specs.Runs.{other}
 use Rattle.walk.specs.Events.{Occurrence, closed, met_under}
-use Rattle.walk.specs.Coming.{Placed, Follows, nothing, ends, Coming, Turns, shuts, ending}
+use Rattle.walk.specs.Coming.{Placed, Follows, nothing, ends, Coming, Comes, Gives, shuts, ending}
 use Rattle.walk.specs.declared.event.Event.TheVariants.{Closed}
-use Rattle.walk.specs.declared.turn.Turn.{Turn}
+use Rattle.walk.specs.declared.cursor.Walk.{Walk}
 use Rattle.tags.proofs.Fronts.{past, scanned, lies_next}
 use Rattle.tags.proofs.Parts.{no_slash}
 
@@ -39,8 +41,12 @@ pub follows_shuts : {p : Option Node} {stop : ℕ} {rest : List ℕ} {os : List 
 follows_shuts (nothing a e b) = ap shuts e
 follows_shuts (ends k q shut n i c after more a b h f g e j l m o) = ap shuts e ∙ ending_shuts shut _ h
 
+-- what comes from a place on, for a walk that has come there
+pub comes_to : (w : Walk) (d : List ℕ) (at : ℕ) (p : Option Node) (os : List Occurrence) → w.document.now ≡ d → w.at ≡ at → w.«open» ≡ p → Coming d at p os → Comes w os
+comes_to w d at p os x y z h = rw (x, y, z) h
+
 -- no element begins: the content ends
-module _ (d : List ℕ) (at place : ℕ) (rest : List ℕ) (hp : place ≡ at + front blank (drop at d)) (hr : stops blank rest ≡ true) where
+module _ (d : List ℕ) (at place : ℕ) (rest : List ℕ) (hp : place ≡ at + prefix_len blank (drop at d)) (hr : stops blank rest ≡ true) where
   pub content_ends : (n : ℕ) (c : Content) → content_ok n c ≡ true → drop at d ≡ content_on c rest → shuts (drop place d) ≡ true →
       (located at c ≡ none) × (place ≡ at + length (text c)) × (drop place d ≡ rest)
   content_ends n (end b) h e k = let (p, f) = scanned blank d b rest at place hp h hr e in (refl, p, f)
@@ -74,7 +80,7 @@ pub record Left (d : List ℕ) (next : ℕ) (p : Option Node) (os : List Occurre
   pub are : os ≡ closed k ∷ others
   pub comes : Coming d next (parent k) others
 
-module _ (d : List ℕ) (at place : ℕ) (hp : place ≡ at + front blank (drop at d)) (p : Option Node) (os : List Occurrence) (co : Coming d at p os)
+module _ (d : List ℕ) (at place : ℕ) (hp : place ≡ at + prefix_len blank (drop at d)) (p : Option Node) (os : List Occurrence) (co : Coming d at p os)
     (shut : shuts (drop place d) ≡ true) where
   ended_here : (located at co.content ≡ none) × (place ≡ at + length (text co.content)) × (drop place d ≡ co.rest)
   ended_here = content_ends d at place co.rest hp (follows_stops co.follows) co.depth co.content co.good co.shown shut
@@ -115,10 +121,11 @@ module _ (d : List ℕ) (at place : ℕ) (hp : place ≡ at + front blank (drop 
             comes = subst (λ x. Coming d next x (met_under q (located next c) more)) (sym b) comes;
           }
 
-pub left_turns : (d : List ℕ) (next : ℕ) (p : Option Node) (os : List Occurrence) → Left d next p os → (node : Node) (q : Option Node) → p ≡ Some node → q ≡ parent node →
-    Turns os d (Some (record { event = Closed node; at = next; «open» = q }))
-left_turns d next p os z node q h e =
-    let t : Turn = record { event = Closed node; at = next; «open» = q } in
-    let w = z.was in
+-- once that node is closed, a walk that has come to the place after its end has the others before it
+pub left_gives : (d : List ℕ) (next : ℕ) (p : Option Node) (os : List Occurrence) → Left d next p os → (node : Node) (w : Walk) → p ≡ Some node → w.document.now ≡ d → w.at ≡ next → w.«open» ≡ parent node →
+    Gives os d (Some (Closed node)) w
+left_gives d next p os z node w h x y e =
+    let was = z.was in
     let f : node ≡ z.k = cc in
-    subst (λ x. Turns x d (Some t)) (sym z.are) (t, refl, ap Closed f, tt, subst (λ x. Coming d next x z.others) (ap parent (sym f) ∙ sym e) z.comes)
+    let o : w.«open» ≡ parent z.k = e ∙ ap parent f in
+    subst (λ l. Gives l d (Some (Closed node)) w) (sym z.are) (ap (λ k. Some (Closed k)) f, tt, comes_to w d next (parent z.k) z.others x y o z.comes)

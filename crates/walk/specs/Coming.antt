@@ -1,6 +1,6 @@
 -- What is still to come of a document from a place in it.
-use Rattle.std.specs.Prelude.{◌≡◌, ℕ, ◌+◌, ◌-◌, Bool, true, false, ◌&&◌, ◌||◌, List, [], ◌∷◌, ◌++◌, length, drop, Some, None, Option, ◌==◌}
-use Rattle.rules.specs.Bytes.{blank, all}
+use Rattle.std.specs.Prelude.{◌≡◌, ℕ, ◌+◌, ◌-◌, Bool, true, false, ◌&&◌, ◌||◌, List, [], ◌∷◌, ◌++◌, length, drop, ◌<◌, Some, None, Option, MatchOption, ◌==◌}
+use Rattle.rules.specs.Bytes.{all}
 use Rattle.rules.specs.Markup.{Content, content_ok, text, Document}
 use Rattle.rules.specs.Located.{Elements, none, element, located, elements_of}
 use Rattle.rules.specs.Values.{placed}
@@ -9,10 +9,10 @@ use Rattle.rules.specs.declared.grounds.Fault.{Fault}
 use Rattle.rules.specs.declared.schema.Node.{Node}
 use Rattle.theory.specs.On.{content_on}
 use Rattle.theory.specs.Schema.{parent}
-use Rattle.tags.specs.Scan.{front, other, ended}
+use Rattle.tags.specs.Scan.{ended}
+use Rattle.byte_classes.specs.Runs.{other}
 use Rattle.walk.specs.Events.{Occurrence, closed, met_under, told, Found}
 use Rattle.walk.specs.declared.event.Event.{Event}
-use Rattle.walk.specs.declared.turn.Turn.{Turn}
 use Rattle.walk.specs.declared.cursor.Walk.{Walk}
 
 -- every element under p has a node
@@ -48,21 +48,10 @@ pub record Coming (d : List ℕ) (at : ℕ) (p : Option Node) (os : List Occurre
   pub are : os ≡ met_under p (located at content) more
   pub follows : Follows p (at + length (text content)) rest more
 
--- from the first byte at a place in the content of p that is no blank on, this is still to be met
-pub record Reached (d : List ℕ) (place : ℕ) (p : Option Node) (os : List Occurrence) : Type 0 where
-  pub at : ℕ
-  pub coming : Coming d at p os
-  pub passed : place ≡ at + front blank (drop at d)
-
 -- no element begins with these bytes: an element or the document ends
 abbrev pub shuts : List ℕ → Bool
 shuts [] = true
 shuts (b ∷ bs) = b == 47 || ended (b ∷ bs)
-
--- the first of what is to come is met, if there is any, and then the others come
-abbrev pub Turns : List Occurrence → List ℕ → Option Turn → Type 0
-Turns [] d r = r ≡ None
-Turns (o ∷ os) d r = (t : Turn) × (r ≡ Some t) × (t.event ≡ told o) × Found d o × Coming d t.at t.«open» os
 
 -- what a walk is still to meet
 abbrev pub Comes : Walk → List Occurrence → Type 0
@@ -76,6 +65,12 @@ Gives (o ∷ os) d r w = (r ≡ Some (told o)) × Found d o × Comes w os
 -- how many bytes a walk has before it
 abbrev pub left : Walk → ℕ
 left w = length w.document.now - w.at
+
+-- one call: the walk stays over its document, has less of it before it where it meets anything and else does not move, and meets the first of what was to come
+pub record Meets (old : Walk) (r : Option Event) (new : Walk) : Type 0 where
+  pub same : new.document.now ≡ old.document.now
+  pub falls : MatchOption r (new ≡ old) (λ _. left new < left old)
+  pub gives : (os : List Occurrence) → Comes old os → Gives os old.document.now r new
 
 -- no node is misplaced or unfinished
 abbrev pub InOrder : List ℕ → Document → Type 0

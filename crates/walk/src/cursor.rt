@@ -1,13 +1,17 @@
 // A walk through the nodes of a document.
-ghost use Rattle.std.specs.Prelude.{◌≡◌, ◌<◌, List, length, MatchOption};
-ghost use Rattle.rules.specs.Markup.{Document, Marks, head};
-ghost use Rattle.walk.specs.Events.{Occurrence, met, OpensEachNode};
-ghost use Rattle.walk.specs.Coming.{Comes, Gives, InOrder, left};
+ghost use Rattle.std.specs.Prelude.{◌≡◌, ◌+◌, ◌<◌, true, false, length, drop};
+ghost use Rattle.std.specs.Iterator.{at_most};
+ghost use Rattle.std.specs.List.{prefix_len};
+ghost use Rattle.rules.specs.Bytes.{blank};
+ghost use Rattle.rules.specs.Markup.{Document, Marks};
+ghost use Rattle.walk.specs.Events.{met, OpensEachNode};
+ghost use Rattle.walk.specs.Coming.{Comes, InOrder, Meets, left, shuts};
 
-use crate::event::Event;
-use crate::turn::advance;
+use crate::event::{Event, Opened};
+use byte_classes::{Blank, NameByte, skip};
 use rules::Node;
-use tags::content_start;
+use schema::{parent, placed};
+use tags::{after, closing, content_start, tag_end};
 
 /// A walk through the nodes of a document, in document order.
 #[derive(Clone, Copy)]
@@ -30,16 +34,63 @@ impl<'a> Walk<'a> {
         }
     }
 
-    /// What the walk meets next; none where the document ends.
-    pub fn next(&mut self) -> Option<Event>
-        ensures same { self.new.document.now ≡ self.old.document.now }
-        ensures falls { MatchOption result (self.new ≡ self.old) (λ _. left self.new < left self.old) }
-        ensures gives { (os : List Occurrence) → Comes self.old os → Gives os self.old.document.now result self.new }
+    /// Closes the open node, whose end stands at `place`.
+    fn leave(&mut self, place: usize) -> Option<Event>
+        requires within { place < length self.old.document.now }
+        requires reached { place ≡ self.old.at + prefix_len blank (drop self.old.at self.old.document.now) }
+        requires ends { shuts (drop place self.old.document.now) ≡ true }
+        ensures { Meets self.old result self.new }
     {
-        let turn = advance(self.document, self.at, self.open)?;
-        self.at = turn.at;
-        self.open = turn.open;
-        Some(turn.event)
+        let node = self.open?;
+        self.at = after(self.document, place);
+        self.open = parent(node);
+        Some(Event::Closed(node))
+    }
+
+    /// Opens the node whose `<` stands at `place`.
+    fn enter(&mut self, place: usize) -> Option<Event>
+        requires within { place + 1 < length self.old.document.now }
+        requires reached { place ≡ self.old.at + prefix_len blank (drop self.old.at self.old.document.now) }
+        requires begins { shuts (drop place self.old.document.now) ≡ false }
+        ensures { Meets self.old result self.new }
+    {
+        let attributes = skip(NameByte, self.document, place + 1);
+        let close = tag_end(self.document, attributes);
+        let node = placed(self.open, &self.document[place + 1..attributes])?;
+        let (childless, at) = match self.document.get(close)? {
+            b'/' => (true, close),
+            _ => (
+                closing(self.document, skip(Blank, self.document, close + 1)),
+                close + 1,
+            ),
+        };
+        self.at = at;
+        self.open = Some(node);
+        Some(Event::Opened(Opened {
+            node,
+            place,
+            attributes,
+            childless,
+        }))
+    }
+}
+
+impl Iterator for Walk<'_> {
+    type Item = Event;
+
+    ghost next_gives = { Meets };
+
+    ghost remaining = { λ w. at_most (left w) };
+
+    /// What the walk meets next; none where the document ends.
+    fn next(&mut self) -> Option<Event> {
+        let place = skip(Blank, self.document, self.at);
+        let first = *self.document.get(place)?;
+        if first == b'/' || closing(self.document, place) {
+            self.leave(place)
+        } else {
+            self.enter(place)
+        }
     }
 }
 

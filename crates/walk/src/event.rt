@@ -1,4 +1,6 @@
 // The events of a walk.
+ghost use Rattle.std.specs.Prelude.{◌≡◌};
+
 use rules::Node;
 
 /// A node that is opened.
@@ -18,4 +20,18 @@ pub struct Opened {
 pub enum Event {
     Opened(Opened),
     Closed(Node),
+}
+
+impl Event {
+    ghost use Rattle.walk.specs.Opening.{opening};
+
+    /// The node that is opened, if one is.
+    pub fn opened(self) -> Option<Opened>
+        ensures { result ≡ opening self }
+    {
+        match self {
+            Event::Opened(opened) => Some(opened),
+            Event::Closed(_) => None,
+        }
+    }
 }

@@ -3,7 +3,9 @@
 
 mod cursor;
 mod event;
-mod turn;
 
 pub use cursor::{Walk, opens_each_node};
 pub use event::{Event, Opened};
+
+#[cfg(test)]
+mod tests;

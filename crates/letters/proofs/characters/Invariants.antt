@@ -1,6 +1,6 @@
-use Rattle.std.specs.Str.Iter.{chars_rest}
+use Rattle.std.specs.Str.Iter.{char_indices_offset, char_indices_rest}
 use Rattle.letters.proofs.Spell.{Sofar}
 use Rattle.letters.proofs.characters.Given as goal
 
-abbrev pub invariant-loop-c : goal.invariant-loop-c
-invariant-loop-c l = (goal.iterator-loop-c).can_next l.left × (goal.iterator-loop-c).is_finite l.left × Sofar l.text l.at (chars_rest l.left)
+abbrev pub invariant-loop-at : goal.invariant-loop-at
+invariant-loop-at l = Sofar l.text (char_indices_offset l.at-iterator) (char_indices_rest l.at-iterator)

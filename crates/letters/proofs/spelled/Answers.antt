@@ -1,4 +1,4 @@
-use Rattle.std.proofs.Common.{◌≡◌, ◌-◌, take, sym, ap, ◌∙◌, subst, arith}
+use Rattle.std.proofs.Common.{◌≡◌, take, sym, subst}
 use Rattle.std.specs.Str.{IsValidUpTo}
 use Rattle.std.proofs.lemmas.Result.{err_from_is_err_and}
 use Rattle.rules.specs.Letters.{Spelled}
@@ -11,7 +11,7 @@ valid : (c : After-from_utf8_unchecked-text) → IsValidUpTo c.args.document.now
 valid c = subst (IsValidUpTo c.args.document.now) (sym c.valid_up_to-n.ensures) c.in-Err.ensures.cases.1
 
 front : (c : After-from_utf8_unchecked-text) → c.from_utf8_unchecked-text.result.now ≡ take c.valid_up_to-n.result c.args.document.now
-front c = let e : c.valid_up_to-n.result - 0 ≡ c.valid_up_to-n.result = omega arith in c.from_utf8_unchecked-text.ensures ∙ ap (λ k. take k c.args.document.now) e
+front c = c.from_utf8_unchecked-text.ensures
 
 pub returns-in_err-characters-in-Err : goal.returns-in_err-characters-in-Err
 returns-in_err-characters-in-Err c =

@@ -1,22 +1,25 @@
-use Rattle.std.proofs.Common.{sym, arith}
-use Rattle.std.proofs.lemmas.List.{take_more_same}
-use Rattle.catalogues.proofs.Orders.{differs, ends_first, both_end}
+use Rattle.std.proofs.Common.{◌≡◌, [], ◌∷◌, sym, ap, ◌∙◌, arith}
+use Rattle.std.specs.Cmp.Lexicographic.{slice_cmp}
+use Rattle.std.specs.Ordering.{nat_cmp, ordering_then}
+use Rattle.std.specs.declared.cmp.Ordering.TheVariants.{Less}
+use Rattle.std.proofs.lemmas.List.{nil_from_length, take_rest}
+use Rattle.catalogues.proofs.Orders.{cmp_parts, cmp_first}
 use Rattle.catalogues.proofs.index.compare.Goals as goal
 
-pub returns-then-a-i : goal.returns-then-a-i
-returns-then-a-i c = differs c.args.a.now c.args.b.now c.loop-i.i c.loop-i.invariant (omega arith) (omega arith) c.if-a-i.true
+pub returns-in-empty : goal.returns-in-empty
+returns-in-empty c =
+    let back = c.split_at.result.1.now in
+    let none : back ≡ [] = nil_from_length back (omega arith) in
+    c.then.ensures
+    ∙ ap (λ o. ordering_then o Less) c.cmp-order.ensures
+    ∙ ap (λ b. ordering_then (slice_cmp nat_cmp c.split_at.result.0.now c.args.name.now) (slice_cmp nat_cmp b (124 ∷ c.args.code.now))) (sym none)
+    ∙ sym (cmp_parts c.args.key.now c.args.name.now (124 ∷ c.args.code.now) c.split_at.result.0.now back c.min.result c.min.ensures c.split_at.ensures.front c.split_at.ensures.back)
 
-pub returns-then-a-i-2 : goal.returns-then-a-i-2
-returns-then-a-i-2 c = differs c.args.b.now c.args.a.now c.loop-i.i (sym c.loop-i.invariant) (omega arith) (omega arith) c.if-a-i-2.true
-
-pub loop-i-preserved : goal.loop-i-preserved
-loop-i-preserved c = take_more_same c.args.a.now c.args.b.now c.loop-i.i 0 (omega arith) (omega arith) c.loop-i.invariant (omega arith)
-
-pub returns-then-a-b : goal.returns-then-a-b
-returns-then-a-b c = ends_first c.args.a.now c.args.b.now c.loop-i.i c.loop-i.invariant (omega arith) (omega arith)
-
-pub returns-then-a-b-2 : goal.returns-then-a-b-2
-returns-then-a-b-2 c = ends_first c.args.b.now c.args.a.now c.loop-i.i (sym c.loop-i.invariant) (omega arith) (omega arith)
-
-pub returns : goal.returns
-returns c = both_end c.args.a.now c.args.b.now c.loop-i.i c.loop-i.invariant (omega arith) (omega arith)
+pub returns-in-len1-up : goal.returns-in-len1-up
+returns-in-len1-up c =
+    let back = c.split_at.result.1.now in
+    let rest = c.cmp-in-len1-up.ensures ∙ ap (λ l. slice_cmp nat_cmp l c.args.code.now) (take_rest back 1) in
+    c.then-in-len1-up-2.ensures
+    ∙ ap (λ o. ordering_then o c.cmp-in-len1-up.result) (c.then-in-len1-up.ensures ∙ ap (λ o. ordering_then o c.cmp.result) c.cmp-order.ensures)
+    ∙ cmp_first back c.args.code.now _ c.cmp.result c.cmp-in-len1-up.result c.in-len1-up.len_at_least c.cmp.ensures rest
+    ∙ sym (cmp_parts c.args.key.now c.args.name.now (124 ∷ c.args.code.now) c.split_at.result.0.now back c.min.result c.min.ensures c.split_at.ensures.front c.split_at.ensures.back)

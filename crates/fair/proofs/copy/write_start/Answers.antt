@@ -7,20 +7,20 @@ use Rattle.fair.proofs.copy.write_start.Goals as goal
 pub returns-in_err-write : goal.returns-in_err-write
 returns-in_err-write g c = λ gs t low named.
     refused (search rules) _ c.in_err-write.ensures
-    (start_left c.args.opened.node c.in-Ok.slots.spans c.args.opened.childless _ _ t c.in-Ok.ensures.holds refl refl)
+    (start_left c.in-Ok.slots.document.now c.args.opened.node c.in-Ok.slots.spans c.args.opened.childless _ _ c.in-Ok.ensures.document t c.in-Ok.ensures.holds refl refl)
 
 pub returns-in_err-send : goal.returns-in_err-send
 returns-in_err-send g c = λ gs t low named.
     refused (search rules) _ c.in_err-send.ensures
     (more_written c.in_ok-write.ensures
-    (start_left c.args.opened.node c.in-Ok.slots.spans c.args.opened.childless _ _ t c.in-Ok.ensures.holds c.tag.ensures refl))
+    (start_left c.in-Ok.slots.document.now c.args.opened.node c.in-Ok.slots.spans c.args.opened.childless _ _ c.in-Ok.ensures.document t c.in-Ok.ensures.holds c.tag.ensures refl))
 
 pub returns-in_err-write_attributes : goal.returns-in_err-write_attributes
 returns-in_err-write_attributes g c = λ gs t low named.
     refused (search rules) _ c.in_err-write_attributes.ensures
     (more_written c.in_ok-send.ensures
     (more_written c.in_ok-write.ensures
-    (start_left c.args.opened.node c.in-Ok.slots.spans c.args.opened.childless _ _ t c.in-Ok.ensures.holds c.tag.ensures refl)))
+    (start_left c.in-Ok.slots.document.now c.args.opened.node c.in-Ok.slots.spans c.args.opened.childless _ _ c.in-Ok.ensures.document t c.in-Ok.ensures.holds c.tag.ensures refl)))
 
 pub returns-then-opened : goal.returns-then-opened
 returns-then-opened g c = λ gs t low named.
@@ -28,7 +28,7 @@ returns-then-opened g c = λ gs t low named.
     (more_written c.in_ok-write_attributes.ensures
     (more_written c.in_ok-send.ensures
     (more_written c.in_ok-write.ensures
-    (start_left c.args.opened.node c.in-Ok.slots.spans c.args.opened.childless _ _ t c.in-Ok.ensures.holds c.tag.ensures (cond-true _ _ _ c.if-opened.true)))))
+    (start_left c.in-Ok.slots.document.now c.args.opened.node c.in-Ok.slots.spans c.args.opened.childless _ _ c.in-Ok.ensures.document t c.in-Ok.ensures.holds c.tag.ensures (cond-true _ _ _ c.if-opened.true)))))
 
 pub returns : goal.returns
 returns g c = λ gs t low named.
@@ -36,4 +36,4 @@ returns g c = λ gs t low named.
     (more_written c.in_ok-write_attributes.ensures
     (more_written c.in_ok-send.ensures
     (more_written c.in_ok-write.ensures
-    (start_left c.args.opened.node c.in-Ok.slots.spans c.args.opened.childless _ _ t c.in-Ok.ensures.holds c.tag.ensures (cond-false _ _ _ c.if-opened.false)))))
+    (start_left c.in-Ok.slots.document.now c.args.opened.node c.in-Ok.slots.spans c.args.opened.childless _ _ c.in-Ok.ensures.document t c.in-Ok.ensures.holds c.tag.ensures (cond-false _ _ _ c.if-opened.false)))))

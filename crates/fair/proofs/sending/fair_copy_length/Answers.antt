@@ -1,6 +1,5 @@
-use Rattle.std.proofs.Common.{◌∙◌}
-use Rattle.sinks.proofs.Uses.{all_counted}
+use Rattle.std.proofs.Common.{refl}
 use Rattle.fair.proofs.sending.fair_copy_length.Goals as goal
 
 pub returns : goal.returns
-returns c = λ m k o n bound. c.count.ensures ∙ all_counted (c.write.ensures m k o n) c.new-counter.ensures bound
+returns c = λ m k o n bound. c.text_length.ensures _ (record { document = m; marks = k; in_order = o; all_named = n; is = refl }) bound

@@ -4,5 +4,6 @@ use Rattle.kinds.proofs.pieces.piece.Goals as goal
 
 pub returns : goal.returns
 returns c =
-    let part = both_ends c.args.raw.now c.blanks_before.result c.blanks_after.result c.blanks_before.ensures.value c.blanks_after.ensures.value in
+    let ends = c.blanks_after.ensures in
+    let part = both_ends c.args.raw.now c.skip.result c.blanks_after.result c.skip.ensures.is ends.within ends.blanks ends.ended in
     record { part = part; kept = λ h. part ∙ kept_is_piece c.args.raw.now h }

@@ -1,28 +1,20 @@
-use Rattle.std.proofs.Common.{sym, refl, ap, ◌∙◌}
-use Rattle.std.proofs.lemmas.Slice.Eq.{slice_eq-Decides}
+use Rattle.std.proofs.Common.{◌≡◌, ◌∙◌, ap, rules, tests}
+use Rattle.std.specs.List.{find}
+use Rattle.std.specs.Option.{option_map}
+use Rattle.std.proofs.lemmas.Iterator.{YieldsList-from_slice}
+use Rattle.std.proofs.lemmas.Iterator.Search.{find_from_yields_List}
+use Rattle.rules.specs.Bytes.{same}
+use Rattle.schema.specs.declared.attributes.Row.{Row}
+use Rattle.schema.proofs.Named.{same_compared}
 use Rattle.layers.specs.Found.{kind_named}
-use Rattle.layers.proofs.KindRows.{named_here, named_later, named_nowhere}
+use Rattle.layers.proofs.KindRows.{found_named}
 use Rattle.layers.proofs.attribute_values.kind_of.Goals as goal
-use Rattle.std.proofs.lemmas.Bool.Decides.{Decides-eqb}
-
-pub loop-row-init : goal.loop-row-init
-loop-row-init c = refl
-
-pub returns-then-eq : goal.returns-then-eq
-returns-then-eq c =
-    let e = ap (λ rs. kind_named rs c.args.name.now) (sym c.rows-row-items.ensures)
-    ∙ c.loop-row.invariant
-    ∙ named_here c.rows-row-items.result.now c.loop-row.row-index _ c.args.name.now c.eq.result c.loop-row-test.true (slice_eq-Decides Decides-eqb _ _ _ c.eq.ensures) c.if-eq.true in
-    cc
-
-pub loop-row-preserved : goal.loop-row-preserved
-loop-row-preserved c =
-    c.loop-row.invariant
-    ∙ named_later c.rows-row-items.result.now c.loop-row.row-index _ c.args.name.now c.eq.result c.loop-row-test.true (slice_eq-Decides Decides-eqb _ _ _ c.eq.ensures) c.if-eq.false
 
 pub returns : goal.returns
 returns c =
-    sym
-    (ap (λ rs. kind_named rs c.args.name.now) (sym c.rows-row-items.ensures)
-    ∙ c.loop-row.invariant
-    ∙ named_nowhere c.rows-row-items.result.now c.loop-row.row-index c.args.name.now c.loop-row-test.false)
+    let rs = c.rows.result.now in
+    let name = c.args.name.now in
+    let found : option_map (λ b. b.now) c.find.result ≡ find (λ r. same r.name.now name) rs =
+    find_from_yields_List (λ r. same r.name.now name) _ _ c.find.result c.find.ensures.ran (YieldsList-from_slice rs cc) (λ x b q k. search (rules, tests, same_compared)) in
+    let mapped : c.map.result ≡ option_map (λ r. r.kind) (option_map (λ b. b.now) c.find.result) = search rules in
+    mapped ∙ ap (option_map (λ (r : Row). r.kind)) found ∙ found_named rs name ∙ ap (λ rs. kind_named rs name) c.rows.ensures

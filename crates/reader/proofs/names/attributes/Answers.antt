@@ -1,30 +1,29 @@
-use Rattle.std.proofs.Common.{◌≡◌, ℕ, ◌<◌, true, cond, List, ◌++◌, drop, Some, Option, sym, subst}
-use Rattle.rules.specs.Bytes.{blank, all}
-use Rattle.rules.specs.Faults.{Judgement}
+use Rattle.std.proofs.Common.{◌++◌, true, false, sym, refl, ap, ◌∙◌, subst}
+use Rattle.rules.specs.Faults.{Judgement, fault_of}
 use Rattle.rules.specs.Grounds.{NamesFault}
 use Rattle.rules.specs.Located.{givens}
-use Rattle.rules.specs.Markup.{Attribute, attribute_ok}
-use Rattle.rules.specs.declared.grounds.Fault.{Fault}
-use Rattle.rules.specs.declared.grounds.Fault.TheVariants.{AttributeMissing}
-use Rattle.theory.specs.On.{attributes_on, closes}
-use Rattle.reader.specs.Names.{refusing}
 use Rattle.reader.specs.Slots.{standing_of}
 use Rattle.reader.proofs.NamesFirst.{judged_names, slots_filled}
+use Rattle.std.proofs.lemmas.Result.{err_from_is_err_and}
 use Rattle.reader.proofs.names.attributes.Goals as goal
-use Rattle.reader.proofs.names.attributes.Goals.{After-missing-lacking}
 
-judged : (c : After-missing-lacking) (o : Option Fault) → o ≡ cond c.missing-lacking.result (Some (AttributeMissing c.args.node_at)) (refusing c.collect-collected.result.refused) → (l : List Attribute) (g z : List ℕ) → all attribute_ok l ≡ true → all blank g ≡ true → closes z ≡ true →
-    drop c.args.at c.args.document.now ≡ attributes_on l (g ++ z) → c.args.node_at < c.args.at → Judgement (NamesFault (standing_of c.args.node c.args.node_at (givens c.args.at l))) o
-judged c o q l g z h hg hz e low =
-    let (s, r) = c.collect-collected.ensures l g z h hg hz e in
-    subst (λ x. Judgement (NamesFault (standing_of c.args.node c.args.node_at (givens c.args.at l))) x) (sym q)
-    (judged_names c.args.document.now c.args.node c.args.at l (g ++ z) h e _ s c.args.node_at low c.missing-lacking.result c.collect-collected.result.refused r c.missing-lacking.ensures)
+pub returns-then-missing-clause-judges : goal.returns-then-missing-clause-judges
+returns-then-missing-clause-judges c = λ l g z h hg hz e low.
+    let (s, r) = c.collect-collected.ensures.pass l g z h hg hz e in
+    judged_names c.args.document.now c.args.opened.now.node c.args.opened.now.attributes l (g ++ z) h e _ s c.args.opened.now.place low true _ refl (sym c.if-missing.true ∙ c.missing.ensures)
 
-pub returns-in-Some : goal.returns-in-Some
-returns-in-Some c = record { judges = judged (goal.at.returns-in-Some c).After-missing-lacking _ c.in-Some.ensures; holds = λ l g z h hg hz e. tt }
+pub returns-in_err-collected-clause-judges : goal.returns-in_err-collected-clause-judges
+returns-in_err-collected-clause-judges c = λ l g z h hg hz e low.
+    let (s, r) = c.collect-collected.ensures.pass l g z h hg hz e in
+    let told = err_from_is_err_and c.from_residual.result c.from_residual.ensures.1 in
+    rw (told.1, told.2) (subst (Judgement (NamesFault (standing_of c.args.opened.now.node c.args.opened.now.place (givens c.args.opened.now.attributes l)))) (sym r ∙ ap fault_of c.in_err-collected.was)
+    (judged_names c.args.document.now c.args.opened.now.node c.args.opened.now.attributes l (g ++ z) h e _ s c.args.opened.now.place low false _ refl (sym c.if-missing.false ∙ c.missing.ensures)))
 
-pub returns-in-None : goal.returns-in-None
-returns-in-None c = record {
-  judges = judged (goal.at.returns-in-None c).After-missing-lacking _ c.in-None.ensures;
-  holds = λ l g z h hg hz e. slots_filled c.args.document.now c.args.node c.args.at l (g ++ z) h e _ (c.collect-collected.ensures l g z h hg hz e).0;
-}
+pub returns-clause-judges : goal.returns-clause-judges
+returns-clause-judges c = λ l g z h hg hz e low.
+    let (s, r) = c.collect-collected.ensures.pass l g z h hg hz e in
+    subst (Judgement (NamesFault (standing_of c.args.opened.now.node c.args.opened.now.place (givens c.args.opened.now.attributes l)))) (sym r ∙ ap fault_of c.in_ok-collected.was)
+    (judged_names c.args.document.now c.args.opened.now.node c.args.opened.now.attributes l (g ++ z) h e _ s c.args.opened.now.place low false _ refl (sym c.if-missing.false ∙ c.missing.ensures))
+
+pub returns-clause-holds : goal.returns-clause-holds
+returns-clause-holds c = λ l g z h hg hz e. slots_filled c.args.document.now c.args.opened.now.node c.args.opened.now.attributes l (g ++ z) h e _ (c.collect-collected.ensures.pass l g z h hg hz e).0

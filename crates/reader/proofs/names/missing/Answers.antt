@@ -1,28 +1,13 @@
-use Rattle.std.proofs.Common.{sym, ap, ◌∙◌, inl, inr, arith}
+use Rattle.std.proofs.Common.{◌≤◌, rules, tests, length, ap, ◌∙◌, arith}
+use Rattle.std.proofs.lemmas.Iterator.{YieldsList-from_slice, YieldsList-from_zip}
+use Rattle.std.proofs.lemmas.Iterator.Search.{any_from_yields_List}
 use Rattle.reader.specs.Names.{lacks}
-use Rattle.reader.proofs.NameRows.{few_rows, lacks_here, lacks_later, lacks_none}
+use Rattle.reader.proofs.NameRows.{few_rows, lacks_value, lacks-any}
 use Rattle.reader.proofs.names.missing.Goals as goal
-use Rattle.reader.proofs.names.missing.Goals.{else-rows-row-via-then-rows-row+else-is_none, else-rows-row-via-else-rows-row}
-
-pub bounds-slots-row : goal.bounds-slots-row
-bounds-slots-row c = omega (arith, few_rows c.args.node c.rows-rows.result.now c.rows-rows.ensures)
-
-pub returns-then-is_none : goal.returns-then-is_none
-returns-then-is_none c =
-    sym
-    (ap (λ t. lacks t 0 c.args.slots.now.spans) (sym c.rows-rows.ensures)
-    ∙ c.loop-row.invariant
-    ∙ lacks_here c.rows-rows.result.now c.args.slots.now.spans c.loop-row.row _ c.loop-row-test.true c.if-rows-row.true c.if-is_none.ensures)
-
-pub loop-row-preserved : goal.loop-row-preserved
-loop-row-preserved c =
-    c.loop-row.invariant
-    ∙ lacks_later c.rows-rows.result.now c.args.slots.now.spans c.loop-row.row _ c.loop-row-test.true
-    (elim c.else-rows-row.branch [ else-rows-row-via-then-rows-row+else-is_none w ↦ inr w.if-is_none.ensures | else-rows-row-via-else-rows-row w ↦ inl w.if-rows-row.false ])
 
 pub returns : goal.returns
 returns c =
-    sym
-    (ap (λ t. lacks t 0 c.args.slots.now.spans) (sym c.rows-rows.ensures)
-    ∙ c.loop-row.invariant
-    ∙ lacks_none c.rows-rows.result.now c.args.slots.now.spans c.loop-row.row c.loop-row-test.false)
+    let both = YieldsList-from_zip {s = c.zip.result} (YieldsList-from_slice c.rows.result.now (cc)) (YieldsList-from_slice c.args.slots.now.spans (search (rules, c.zip.ensures.second))) in
+    let enough : length c.rows.result.now ≤ length c.args.slots.now.spans = omega (arith, few_rows c.args.node c.rows.result.now c.rows.ensures) in
+    let found = any_from_yields_List lacks_value c.any.new.self _ c.any.result c.any.ensures.ran both (λ x b q k. search (rules, tests)) in
+    found ∙ lacks-any c.rows.result.now c.args.slots.now.spans enough ∙ ap (λ rs. lacks rs 0 c.args.slots.now.spans) c.rows.ensures

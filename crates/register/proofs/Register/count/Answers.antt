@@ -1,6 +1,8 @@
-use Rattle.rules.specs.Register.{opened}
-use Rattle.register.proofs.Asking.{opened_live, state_same, counted_of}
+use Rattle.register.proofs.Live.{still_there}
+use Rattle.std.proofs.Common.{sym, refl, ap}
+use Rattle.rules.specs.Register.{counting}
+use Rattle.promises.proofs.Stored.{length_decoded}
 use Rattle.register.proofs.Register.count.Goals as goal
 
 pub returns : goal.returns
-returns c = counted_of (state_same opened c.stored.ensures.memory c.stored.ensures.used c.stored.ensures.count) (c.count.ensures opened opened_live)
+returns g c = (still_there _ g.P.Phase.answers, (ap counting (sym (length_decoded c.args.self.now.count c.args.self.now.memory.now)), refl))

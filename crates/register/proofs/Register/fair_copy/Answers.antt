@@ -1,6 +1,8 @@
-use Rattle.rules.specs.Register.{opened}
-use Rattle.register.proofs.Asking.{opened_live, state_same, asked_of}
+use Rattle.register.proofs.Live.{still_there}
+use Rattle.register.specs.States.{texts}
+use Rattle.register.proofs.Places.{nth_there}
+use Rattle.register.proofs.Asking.{copy_asked}
 use Rattle.register.proofs.Register.fair_copy.Goals as goal
 
 pub returns : goal.returns
-returns g c = asked_of (state_same opened c.stored.ensures.memory c.stored.ensures.used c.stored.ensures.count) (c.fair_copy.ensures opened opened_live)
+returns g c = copy_asked c.args.self.now g.P.Phase.phase (still_there _ g.P.Phase.answers) (nth_there (texts c.args.self.now) c.args.number _ c.text.result c.in_ok-text.ensures.value c.text.ensures) c.send_to.ensures

@@ -1,28 +1,19 @@
-use Rattle.std.proofs.Common.{sym, refl, ap, ◌∙◌}
-use Rattle.std.proofs.lemmas.Slice.Eq.{slice_eq-Decides}
+use Rattle.std.proofs.Common.{◌≡◌, ap, ◌∙◌, rules, tests}
+use Rattle.std.specs.List.{find}
+use Rattle.std.specs.Option.{option_map}
+use Rattle.std.proofs.lemmas.Iterator.{YieldsList-from_slice}
+use Rattle.std.proofs.lemmas.Iterator.Search.{find_from_yields_List}
+use Rattle.schema.specs.declared.places.Child.{Child}
+use Rattle.rules.specs.Bytes.{same}
+use Rattle.rules.specs.Schema.{tag}
 use Rattle.rules.specs.Values.{named}
-use Rattle.schema.proofs.Named.{carries, passes, none_left}
+use Rattle.schema.proofs.Named.{same_compared, found_named}
 use Rattle.schema.proofs.places.placed.Goals as goal
-use Rattle.std.proofs.lemmas.Bool.Decides.{Decides-eqb}
-
-pub loop-child-init : goal.loop-child-init
-loop-child-init c = refl
-
-pub returns-then-eq : goal.returns-then-eq
-returns-then-eq c =
-    let e = ap (λ cs. named cs c.args.name.now) (sym c.children-child-items.ensures)
-    ∙ c.loop-child.invariant
-    ∙ carries c.children-child-items.result.now c.loop-child.child-index _ c.args.name.now c.tag.result.now c.eq.result c.loop-child-test.true c.tag.ensures (slice_eq-Decides Decides-eqb _ _ _ c.eq.ensures) c.if-eq.true in
-    cc
-
-pub loop-child-preserved : goal.loop-child-preserved
-loop-child-preserved c =
-    c.loop-child.invariant
-    ∙ passes c.children-child-items.result.now c.loop-child.child-index _ c.args.name.now c.tag.result.now c.eq.result c.loop-child-test.true c.tag.ensures (slice_eq-Decides Decides-eqb _ _ _ c.eq.ensures) c.if-eq.false
 
 pub returns : goal.returns
 returns c =
-    sym
-    (ap (λ cs. named cs c.args.name.now) (sym c.children-child-items.ensures)
-    ∙ c.loop-child.invariant
-    ∙ none_left c.children-child-items.result.now c.loop-child.child-index c.args.name.now c.loop-child-test.false)
+    let cs = c.children.result.now in
+    let name = c.args.name.now in
+    let found : option_map (λ b. b.now) c.find.result ≡ find (λ t. same (tag t.node) name) cs = find_from_yields_List (λ t. same (tag t.node) name) _ _ c.find.result c.find.ensures.ran (YieldsList-from_slice cs cc) (λ x b q k. search (rules, tests, same_compared)) in
+    let mapped : c.map.result ≡ option_map (λ t. t.node) (option_map (λ b. b.now) c.find.result) = search rules in
+    mapped ∙ ap (option_map (λ (t : Child). t.node)) found ∙ found_named cs name ∙ ap (λ rs. named rs name) c.children.ensures

@@ -1,55 +1,42 @@
-use Rattle.std.proofs.Common.{◌≡◌, ◌+◌, get_or, drop, Some, refl, ap, arith}
+use Rattle.std.proofs.Common.{◌+◌, drop, Some, refl, sym, ap, ◌∙◌, arith}
+use Rattle.std.specs.List.{prefix_len}
+use Rattle.std.proofs.lemmas.Bool.{false≢true}
 use Rattle.std.proofs.lemmas.Bool.Decides.{nat_tests}
-use Rattle.tags.specs.Scan.{front, other}
+use Rattle.byte_classes.specs.Runs.{other}
 use Rattle.tags.proofs.Parts.{steps, spans_are, tag_ends, no_slash, no_angle}
 use Rattle.tags.proofs.attributes.attribute.Goals as goal
-use Rattle.tags.proofs.attributes.attribute.Goals.{then-name-document-via-then-name-document, then-name-document-via-else-name-document+then-document-name-eq47, then-name-document-via-else-name-document+else-document-name-eq47+then-document-name-eq62}
+use Rattle.tags.proofs.attributes.attribute.Goals.{in_default, in-47, in-47-2}
 
-pub returns-then-name-document : goal.returns-then-name-document
-returns-then-name-document c = record {
-  within = tt;
-  reads = λ a rest ok e.
-      let s = steps c.args.document.now c.args.at c.skip_blanks-name.result _ _ _ _ c.skip_blanks-name.ensures.is refl refl refl refl a rest ok e in
-      absurd (elim c.then-name-document.branch [ then-name-document-via-then-name-document w ↦ omega arith | then-name-document-via-else-name-document+then-document-name-eq47 w ↦ no_slash _ s.name_byte w.if-document-name-eq47.true | then-name-document-via-else-name-document+else-document-name-eq47+then-document-name-eq62 w ↦ no_angle _ s.name_byte w.if-document-name-eq62.true ]);
-  none = λ g z hg hz e. refl;
-}
+pub returns-in_err-get-clause-reads : goal.returns-in_err-get-clause-reads
+returns-in_err-get-clause-reads c = λ a rest ok e.
+    let s = steps c.args.document.now c.args.at c.skip-start.result _ _ _ _ c.skip-start.ensures.is refl refl refl refl a rest ok e in
+    absurd (omega (arith, c.in_err-get.ensures.lookup.3, s.name_in))
 
-pub returns-then-equals-document : goal.returns-then-equals-document
-returns-then-equals-document c = record {
-  within = tt;
-  reads = λ a rest ok e.
-      let s = steps c.args.document.now c.args.at _ _ c.skip_blanks-equals.result _ _ c.skip_blanks-name.ensures.is c.skip_name-stop.ensures.is c.skip_blanks-equals.ensures.is refl refl a rest ok e in
-      absurd (omega arith);
-  none = λ g z hg hz e. refl;
-}
+pub returns-then-matches-clause-reads : goal.returns-then-matches-clause-reads
+returns-then-matches-clause-reads c = λ a rest ok e.
+    let s = steps c.args.document.now c.args.at c.skip-start.result _ _ _ _ c.skip-start.ensures.is refl refl refl refl a rest ok e in
+    let here = sym (c.in_ok-get.ensures.lookup.3.1 0) in
+    elim c.match-matches.branch [ in_default w ↦ absurd (false≢true (sym w.matches-is ∙ c.if-matches.true)) | in-47 w ↦ absurd (no_slash _ s.name_byte (here ∙ w.in-47.is)) | in-47-2 w ↦ absurd (no_angle _ s.name_byte (here ∙ w.in-47.is)) ]
 
-pub returns-then-quote-document : goal.returns-then-quote-document
-returns-then-quote-document c = record {
-  within = tt;
-  reads = λ a rest ok e.
-      let s = steps c.args.document.now c.args.at _ _ _ c.skip_blanks-quote.result _ c.skip_blanks-name.ensures.is c.skip_name-stop.ensures.is c.skip_blanks-equals.ensures.is c.skip_blanks-quote.ensures.is refl a rest ok e in
-      absurd (omega arith);
-  none = λ g z hg hz e. refl;
-}
+pub returns-in_err-quote-clause-reads : goal.returns-in_err-quote-clause-reads
+returns-in_err-quote-clause-reads c = λ a rest ok e.
+    let s = steps c.args.document.now c.args.at _ _ _ c.skip-opening.result _ c.skip-start.ensures.is c.skip-end.ensures.is c.skip-equals.ensures.is c.skip-opening.ensures.is refl a rest ok e in
+    absurd (omega (arith, c.in_err-quote.ensures.lookup.3, s.quote_in))
 
-pub returns-then-close-document : goal.returns-then-close-document
-returns-then-close-document c =
-    let last : c.skip_to-close.result ≡ c.skip_blanks-quote.result + 1 + front (other (get_or c.args.document.now c.skip_blanks-quote.result 0)) (drop (c.skip_blanks-quote.result + 1) c.args.document.now) = cc in
-    record {
-      within = tt;
-      reads = λ a rest ok e.
-          let s = steps c.args.document.now c.args.at _ _ _ _ _ c.skip_blanks-name.ensures.is c.skip_name-stop.ensures.is c.skip_blanks-equals.ensures.is c.skip_blanks-quote.ensures.is last a rest ok e in
-          absurd (omega arith);
-      none = λ g z hg hz e. refl;
-    }
+pub returns-then-closing-document-clause-reads : goal.returns-then-closing-document-clause-reads
+returns-then-closing-document-clause-reads c = λ a rest ok e.
+    let last = c.skip-closing.ensures.is ∙ ap (λ b. c.skip-opening.result + 1 + prefix_len (other b) (drop (c.skip-opening.result + 1) c.args.document.now)) (c.in_ok-quote.ensures.lookup.3.1 0) in
+    let s = steps c.args.document.now c.args.at _ _ _ _ _ c.skip-start.ensures.is c.skip-end.ensures.is c.skip-equals.ensures.is c.skip-opening.ensures.is last a rest ok e in
+    absurd (omega arith)
 
-pub returns : goal.returns
-returns c =
-    let last : c.skip_to-close.result ≡ c.skip_blanks-quote.result + 1 + front (other (get_or c.args.document.now c.skip_blanks-quote.result 0)) (drop (c.skip_blanks-quote.result + 1) c.args.document.now) = cc in
-    record {
-      within = record { begins = omega arith; named = omega arith; apart = omega arith; valued = omega arith; ends = omega arith };
-      reads = λ a rest ok e.
-          let s = steps c.args.document.now c.args.at _ _ _ _ _ c.skip_blanks-name.ensures.is c.skip_name-stop.ensures.is c.skip_blanks-equals.ensures.is c.skip_blanks-quote.ensures.is last a rest ok e in
-          ap Some (spans_are _ _ _ _ _ _ _ a rest s);
-      none = λ g z hg hz e. let (p, l, t) = tag_ends c.args.document.now c.args.at _ c.skip_blanks-name.ensures.is g z hg hz e in absurd (grind (arith, nat_tests));
-    }
+pub returns-clause-reads : goal.returns-clause-reads
+returns-clause-reads c = λ a rest ok e.
+    let last = c.skip-closing.ensures.is ∙ ap (λ b. c.skip-opening.result + 1 + prefix_len (other b) (drop (c.skip-opening.result + 1) c.args.document.now)) (c.in_ok-quote.ensures.lookup.3.1 0) in
+    let s = steps c.args.document.now c.args.at _ _ _ _ _ c.skip-start.ensures.is c.skip-end.ensures.is c.skip-equals.ensures.is c.skip-opening.ensures.is last a rest ok e in
+    ap Some (spans_are _ _ _ _ _ _ _ a rest s)
+
+pub returns-clause-none : goal.returns-clause-none
+returns-clause-none c = λ g z hg hz e.
+    let (p, l, t) = tag_ends c.args.document.now c.args.at _ c.skip-start.ensures.is g z hg hz e in
+    let here = c.in_ok-get.ensures.lookup.3.1 0 in
+    elim c.match-matches.branch [ in_default w ↦ absurd (grind (arith, nat_tests, here, t)) | in-47 w ↦ absurd (false≢true (sym c.if-matches.false ∙ w.matches-is)) | in-47-2 w ↦ absurd (false≢true (sym c.if-matches.false ∙ w.matches-is)) ]

@@ -1,10 +1,11 @@
-use Rattle.std.proofs.Common.{◌≡◌, ◌-◌, length}
+use Rattle.std.proofs.Common.{◌≡◌, length}
+use Rattle.rules.specs.Kept.{resolved}
 use Rattle.kinds.specs.Reading.{rest}
-use Rattle.kinds.proofs.Steps.{left_at}
+use Rattle.kinds.proofs.Steps.{Passed, left}
 use Rattle.kinds.proofs.kept.KeptIterator.next.Given as goal
 
-abbrev pub invariant-loop-self : goal.invariant-loop-self
-invariant-loop-self l = (l.self.raw.now ≡ l.initial.self.raw.now) × (l.self.begun ≡ l.initial.self.begun) × (left_at l.self.begun l.gap l.self.raw.now l.self.at ≡ rest l.initial.self)
+abbrev pub invariant-loop-b : goal.invariant-loop-b
+invariant-loop-b l = Passed l.initial.self.raw.now l.self.raw.now × (l.self.begun ≡ l.initial.self.begun) × (left l.self.begun l.gap (resolved l.self.raw.now) ≡ rest l.initial.self)
 
-abbrev pub decreases-loop-self : goal.decreases-loop-self
-decreases-loop-self l = length l.self.raw.now - l.self.at
+abbrev pub decreases-loop-b : goal.decreases-loop-b
+decreases-loop-b l = length l.self.raw.now
