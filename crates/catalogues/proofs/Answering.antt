@@ -1,7 +1,9 @@
 -- What the set of a catalogue text answers.
-use Rattle.std.proofs.Common.{◌≡◌, ℕ, ◌-◌, ◌<◌, List, ◌∷◌, ◌++◌, length, get_or, Some, None, Err, Option, sym, refl, ap, ◌∙◌, subst, arith}
+use Rattle.std.proofs.Common.{◌≡◌, ℕ, ◌-◌, ◌<◌, ◌≤◌, true, leb, List, ◌∷◌, ◌++◌, length, get_or, Some, None, Err, Option, sym, refl, ap, ◌∙◌, subst, arith}
 use Rattle.std.proofs.lemmas.List.{take_all}
-use Rattle.rules.specs.Bytes.{Among}
+use Rattle.std.proofs.lemmas.Bool.{and_parts, leb-true}
+use Rattle.rules.specs.Bytes.{Among, all}
+use Rattle.rules.specs.Kinds.{code_ok, length_in, alphanumeric}
 use Rattle.rules.specs.Catalogues.{catalogue_name, ended_lines, CatalogueFinds, facts_of, fact_text, Holds}
 use Rattle.rules.specs.declared.grounds.Fault.{Fault}
 use Rattle.rules.specs.declared.schema.Catalogue.{Catalogue}
@@ -21,6 +23,17 @@ nothing (Some n) h = absurd (h n refl)
 module _ (t : List ℕ) (c : Catalogue) (s : List ℕ) where
   pub bad_answers : (((f : Fault) → CatalogueFinds t f → ⊥) → ⊥) → facts_of t c s ≡ None
   bad_answers x = nothing (facts_of t c s) (λ n e. x ((knows t c s n).1 e).0)
+
+  pub long_answers : 10 < length s → facts_of t c s ≡ None
+  long_answers h = nothing (facts_of t c s) (λ n e. go n ((knows t c s n).1 e))
+    where
+      go : (n : ℕ) → Holds t c s n → ⊥
+      go n x =
+          let k : code_ok x.1.key ≡ true = (and_parts (code_ok x.1.key) (leb x.1.decimals 6) x.3).0 in
+          let l : length_in 1 10 x.1.key ≡ true = (and_parts (length_in 1 10 x.1.key) (all alphanumeric x.1.key) k).0 in
+          let m : length x.1.key ≤ 10 = leb-true (length x.1.key) 10 (and_parts (leb 1 (length x.1.key)) (leb (length x.1.key) 10) l).1 in
+          let e : length x.1.key ≡ length s = ap length x.5 in
+          omega arith
 
   module _ (o : InOrder t (length t)) where
     pub found_answers : (p : ℕ) → Within t (length t) p → key_at t p ≡ asked c s → facts_of t c s ≡ Some (last_of (line_at t p) - 48)

@@ -130,6 +130,16 @@ fact_key f = ap key_of (text_is f) ∙ key_before (asked f.catalogue f.key) 124 
 pub fact_last : (f : Fact) → last_of (fact_text f) - 48 ≡ f.decimals
 fact_last f = let e : last_of (fact_text f) ≡ 48 + f.decimals = ap last_of (text_is f) ∙ last_is (asked f.catalogue f.key) 124 (48 + f.decimals) in omega arith
 
+pub two_bytes : (l : List ℕ) → fact_line l ≡ true → 2 ≤ length l
+two_bytes l h = leb-true _ _ (and_parts _ _ h).0
+
+pub digit_from : (l : List ℕ) → fact_line l ≡ true → 48 ≤ last_of l
+digit_from l h =
+    let (_, h₁) = and_parts (leb 2 (length l)) _ h in
+    let (_, h₂) = and_parts (eqb (get_or l (length l - 2) 0) 124) _ h₁ in
+    let (d, _) = and_parts (is_in_range 48 54 (last_of l)) _ h₂ in
+    leb-true _ _ (and_parts (leb 48 (last_of l)) _ d).0
+
 pub fact_told : (l : List ℕ) → fact_line l ≡ true → (f : Fact) × (fact_ok f ≡ true) × (l ≡ fact_text f)
 fact_told l h =
     let (a, h₁) = and_parts (leb 2 (length l)) _ h in
@@ -147,3 +157,20 @@ fact_told l h =
         let lo = leb-true 48 b u in
         let hi = leb-true b 54 v in
         (omega arith, omega arith)
+
+-- the longest name has 17 bytes
+pub name_short : (c : Catalogue) → length (catalogue_name c) ≤ 17
+name_short FormaPago = omega arith
+name_short Moneda = omega arith
+name_short TipoDeComprobante = omega arith
+name_short Exportacion = omega arith
+name_short MetodoPago = omega arith
+name_short CodigoPostal = omega arith
+name_short RegimenFiscal = omega arith
+name_short ResidenciaFiscal = omega arith
+name_short UsoCFDI = omega arith
+name_short ClaveProdServ = omega arith
+name_short ClaveUnidad = omega arith
+name_short ObjetoImp = omega arith
+name_short Impuesto = omega arith
+name_short TipoFactor = omega arith

@@ -1,10 +1,11 @@
 -- Lines and line feeds of a text.
-use Rattle.std.proofs.Common.{◌≡◌, ℕ, zero, suc, ◌+◌, ◌<◌, ◌≤◌, cond, eqb, List, [], ◌∷◌, ◌++◌, length, take, drop, sym, refl, ap, ◌∙◌, ⊎_elim, append_assoc, append-nil, arith, length-append}
+use Rattle.std.proofs.Common.{◌≡◌, ℕ, zero, suc, ◌+◌, ◌<◌, ◌≤◌, cond, eqb, List, [], ◌∷◌, ◌++◌, length, take, drop, sym, refl, ap, ◌∙◌, ⊎_elim, append_assoc, append-nil, arith, length-append, get_or}
 use Rattle.std.specs.List.{count_by}
 use Rattle.std.proofs.lemmas.List.Recursion.{is_count_by}
-use Rattle.std.proofs.lemmas.Bool.{cases_Bool, eqb-true}
+use Rattle.std.proofs.lemmas.Bool.{cases_Bool, eqb-true, cond-true, cond-false, eq-eqb, ne_eqb}
 use Rattle.rules.specs.Catalogues.{ended_from, rest_from, start_after}
 use Rattle.catalogues.specs.Lines.{before_feed}
+use Rattle.std.proofs.lemmas.List.{at_drop_more, at_drop_all}
 
 -- a text and what follows it
 pub ended-++ : (line a b : List ℕ) → ended_from line (a ++ b) ≡ ended_from line a ++ ended_from (rest_from line a) b
@@ -151,3 +152,14 @@ one_more a s h =
 
 pub feeds_counted : (s : List ℕ) → feeds s ≡ count_by (λ b. eqb b 10) s
 feeds_counted s = is_count_by feeds (λ b. eqb b 10) refl (λ _ _. refl) s
+
+-- line feeds one byte on
+module _ (s : List ℕ) (i : ℕ) where
+  pub feeds_more : i < length s → get_or s i 0 ≡ 10 → feeds (drop i s) ≡ 1 + feeds (drop (i + 1) s)
+  feeds_more h e = at_drop_more feeds s i 0 h ∙ cond-true _ _ _ (eq-eqb _ _ e)
+
+  pub feeds_past : i < length s → (get_or s i 0 ≡ 10 → ⊥) → feeds (drop i s) ≡ feeds (drop (i + 1) s)
+  feeds_past h e = at_drop_more feeds s i 0 h ∙ cond-false _ _ _ (ne_eqb _ _ e)
+
+  pub feeds_end : length s ≤ i → feeds (drop i s) ≡ 0
+  feeds_end h = at_drop_all feeds s i h

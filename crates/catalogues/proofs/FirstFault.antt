@@ -1,11 +1,11 @@
 -- The first fault of a catalogue text.
 use Rattle.std.proofs.Common.{◌≡◌, ℕ, ◌+◌, ◌<◌, ◌≤◌, Bool, true, false, ltb, suc, List, [], ◌∷◌, ◌++◌, length, take, drop, sym, refl, ap, ◌∙◌, subst, ⊎_elim, append_assoc, append-nil, arith, length-append}
 use Rattle.std.proofs.lemmas.Bool.{and_parts, and_from, cases_Bool, cases_lt, both_ways, ltb-true, lt-ltb, false≢true}
-use Rattle.std.proofs.lemmas.List.{length-drop}
+use Rattle.std.proofs.lemmas.List.{length-drop, take_all, nil_from_length}
 use Rattle.std.proofs.lemmas.Bool.Decides.{nat_tests}
 use Rattle.rules.specs.Bytes.{same}
 use Rattle.rules.specs.Faults.{rank, not_after, FirstOf}
-use Rattle.rules.specs.Catalogues.{Fact, fact_ok, fact_text, header, ended_lines, start_after, SamePair, CatalogueFinds, too_long, too_many, no_header, bad_header, no_fact, repeats, not_ended}
+use Rattle.rules.specs.Catalogues.{Fact, fact_ok, fact_text, header, ended_lines, unended, start_after, SamePair, CatalogueFinds, too_long, too_many, no_header, bad_header, no_fact, repeats, not_ended}
 use Rattle.rules.specs.declared.grounds.Fault.{Fault}
 use Rattle.rules.specs.declared.grounds.Fault.TheVariants.{BadCatalogue, BadCatalogueLine}
 use Rattle.theory.proofs.Bytes.{same_is}
@@ -206,3 +206,23 @@ no_faults t s at o e n g x =
     let o' : InOrder t (length t) = subst (InOrder t) n (subst (λ s. InOrder s at) e o) in
     let (p, e, h, k) = found_later t (length t) o' g x in
     omega arith
+
+-- a text without faults is in order to its end
+pub in_order : (t : List ℕ) → ((g : Fault) → CatalogueFinds t g → ⊥) → InOrder t (length t)
+in_order t n =
+    let b : unended (take (length t) t) ≡ [] = ap unended (take_all (length t) t (omega arith)) ∙ ⊎_elim (λ x. absurd (n _ (not_ended x))) (λ x. nil_from_length _ (omega arith)) (cases_lt 0 (length (unended t))) in
+    let h : header_there t ≡ true = ⊎_elim (λ x. x) (λ x. absurd (n _ (first_header t x).0)) (cases_Bool (header_there t)) in
+    let z = (header_is t h).1 in
+    record {
+      short = ⊎_elim (λ x. absurd (n _ (too_long x))) (λ x. x) (cases_lt 65536 (length t));
+      few = ⊎_elim (λ x. absurd (n _ (too_many x))) (λ x. x) (cases_lt 4096 (length (ended_lines t)));
+      headed = h;
+      past_header = omega arith;
+      inside = omega arith;
+      begins = b;
+      facts = λ p w. fact_at b p w;
+      apart = λ p q v w k e. n _ (repeats_at t p q v.0 w.0 k (line_before t q (length t) w.0 b w.2 (omega arith)).0 (fact_at b p v) (fact_at b q w) e);
+    }
+  where
+    fact_at : Begins t (length t) → (p : ℕ) → Within t (length t) p → fact_line (line_at t p) ≡ true
+    fact_at b p w = ⊎_elim (λ x. x) (λ x. absurd (n _ (no_fact_at t p w.0 w.1 (line_before t p (length t) w.0 b w.2 (omega arith)).0 x))) (cases_Bool (fact_line (line_at t p)))

@@ -2,13 +2,18 @@
 use Rattle.std.proofs.Common.{◌≡◌, ℕ, suc, ◌+◌, ◌-◌, ◌<◌, ◌≤◌, true, ◌⊎◌, List, length, get_or, set, take, drop, Err, sym, refl, ap, ◌∙◌, subst, inl, inr, ⊎_elim, arith, length-append}
 use Rattle.std.proofs.lemmas.Bool.{cases_lt, cases_order}
 use Rattle.std.specs.List.{CopiedTo, SameBelow}
-use Rattle.std.proofs.lemmas.List.{get_or-set_same, get_or-set_other}
+use Rattle.std.proofs.lemmas.List.{get_or-set_same, get_or-set_other, take_all}
 use Rattle.rules.specs.Catalogues.{ended_lines}
 use Rattle.catalogues.specs.Lines.{line_at, key_at, Within, InOrder}
 use Rattle.catalogues.specs.Ordered.{below, key_in, Ascends, Lists, Covers, Indexed, Sought, Inserted}
 use Rattle.catalogues.proofs.FirstFault.{header_length}
 use Rattle.catalogues.proofs.Orders.{below_itself}
 use Rattle.catalogues.proofs.Places.{line_there, within_next, count_next}
+use Rattle.catalogues.proofs.FactLines.{two_bytes}
+
+-- what the search in an index asks of its lines
+pub readable : (t : List ℕ) (at : ℕ) (index : List ℕ) (n : ℕ) → InOrder t at → Lists t at index n → (i : ℕ) → i < n → (get_or index i 0 ≤ length t) × (2 ≤ length (line_at t (get_or index i 0)))
+readable t at index n o l i h = let w = l i h in let k = o.inside in (omega (arith, w.2), two_bytes _ (o.facts _ w))
 
 -- a key that is not found is the key of no line
 pub absent : (t : List ℕ) (at : ℕ) (index k : List ℕ) (n i : ℕ) → Covers t at index n → Sought t index n k (Err i) → (p : ℕ) → Within t at p → key_at t p ≡ k → ⊥
@@ -16,6 +21,14 @@ absent t at index k n i c s p w e =
     c p w (λ j h q.
     let f : key_in t index j ≡ k = ap (key_at t) q ∙ e in
     ⊎_elim (λ x. below_itself k (sym (ap (λ y. below y k) f) ∙ s.1 j x)) (λ x. below_itself k (sym (ap (below k) f) ∙ s.2 j x h)) (cases_lt j i))
+
+-- an index has no more lines than its text may have
+pub few_lines : (t index : List ℕ) (n : ℕ) → InOrder t (length t) → Indexed t (length t) index n → n ≤ 4096
+few_lines t index n o x =
+    let e : length (ended_lines (take (length t) t)) ≡ length (ended_lines t) = ap (λ y. length (ended_lines y)) (take_all (length t) t (omega arith)) in
+    let f = o.few in
+    let g = x.counted in
+    omega arith
 
 -- an index of no line
 pub empty_index : (t index : List ℕ) → InOrder t 25 → Indexed t 25 index 0

@@ -1,4 +1,6 @@
+mod Passing
 mod Scans
+mod Untils
 mod Orders
 pub mod FactLines
 pub mod Feeds

@@ -10,6 +10,9 @@ use crate::lines::{decimals_of, line_from, name_of};
 use crate::sets::CatalogueSet;
 use rules::Catalogue;
 
+// The most bytes of a code that stands in a catalogue text.
+const LONGEST_CODE: usize = 10;
+
 /// The set of a catalogue text: its facts, and none where it has a fault.
 #[derive(Drop)]
 pub struct CatalogueText<'a> {
@@ -38,6 +41,9 @@ impl CatalogueSet for CatalogueText<'_> {
     ghost small = { λ s. text_bounded s.text.now };
 
     fn decimals(&self, catalogue: Catalogue, code: &[u8]) -> Option<u8> {
+        if code.len() > LONGEST_CODE {
+            return None;
+        }
         let index = self.index.as_ref()?;
         let i = index.search(name_of(catalogue), code).ok()?;
         Some(decimals_of(line_from(self.text, index.places[i] as usize)))

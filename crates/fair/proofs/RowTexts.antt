@@ -56,6 +56,12 @@ namespace_only Rfc h = absurd (false≢true h)
 namespace_only Seal h = absurd (false≢true h)
 namespace_only (Code c) h = absurd (false≢true h)
 
+-- a row of a namespace has its text
+pub namespace_row : (d : List ℕ) (r : Row) (s : Option Span) (t : List ℕ) → namespace_text r.kind ≡ Some t → attribute_text (fair_attribute r.name (kept (resolved t))) ≡ row_text r (row_value d r s)
+namespace_row d r s t e =
+    let is : only_text r.kind ≡ t = let f = namespace_only r.kind (ap is_some e) in cc in
+    ap (λ x. attribute_text (fair_attribute r.name x)) (subst (λ x. kept (resolved x) ≡ x) is (only_kept r.kind)) ∙ ap (λ o. row_text r (option_or o (kept_in d r.kind s))) (sym e)
+
 -- a row that has a text is written with it
 pub row_written : (r : Row) (n raw : Option (Bor (List ℕ))) (t : Bor (List ℕ)) → MatchOption n (namespace_text r.kind ≡ None) (λ b. namespace_text r.kind ≡ Some b.now) → Some t ≡ option_or n raw →
     attribute_text (fair_attribute r.name (kept (resolved t.now))) ≡ row_text r (given_value r (lent raw))

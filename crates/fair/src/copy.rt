@@ -12,7 +12,7 @@ ghost use Rattle.fair.specs.Texts.{FairCopyOf};
 ghost use Rattle.fair.specs.Copy.{WellNamed, AllNamed, start_text, end_text, occurrence_text, opens_childless, Fine};
 
 use crate::rows::write_attributes;
-use reader::attributes;
+use reader::lent_slots;
 use rules::Node;
 use schema::tag;
 use sinks::{Refused, Text, Writer, send};
@@ -26,7 +26,7 @@ pub struct FairCopy<'a>(pub &'a [u8]);
 fn write_start<W: Writer>(to: &mut W, document: &[u8], opened: Opened) -> Result<(), Refused>
     ensures { (gs : List Given) → Tagged document.now opened.attributes gs → opened.place < opened.attributes → WellNamed (standing_of opened.node opened.place gs) → Written W.Writer.writing to.old (start_text opened.node gs opened.childless) (is_ok result) to.new }
 {
-    let Ok(slots) = attributes(document, &opened) else {
+    let Ok(slots) = lent_slots(document, &opened) else {
         return Err(Refused);
     };
     to.write(b'<')?;

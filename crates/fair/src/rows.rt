@@ -9,7 +9,7 @@ ghost use Rattle.reader.specs.Slots.{lent};
 ghost use Rattle.fair.specs.Rows.{namespace_text, given_value, row_values, row_text};
 
 use crate::values::write_attribute;
-use reader::Slots;
+use reader::LentSlots;
 use rules::{FixedText, Kind, Node};
 use schema::{Row, rows};
 use sinks::{Refused, Writer};
@@ -36,7 +36,7 @@ fn write_row<W: Writer>(to: &mut W, row: Row, raw: Option<&[u8]>) -> Result<(), 
 }
 
 /// Writes the attributes of a node's tag: its namespaces, and then those that its slots hold, in table order.
-pub fn write_attributes<W: Writer>(to: &mut W, node: Node, slots: &Slots) -> Result<(), Refused>
+pub fn write_attributes<W: Writer>(to: &mut W, node: Node, slots: &LentSlots) -> Result<(), Refused>
     ensures { Written W.Writer.writing to.old (attributes_text (fair_attributes (rows_of node) (row_values slots.now.document.now (rows_of node) slots.now.spans))) (is_ok result) to.new }
 {
     for (i, row) in rows(node).iter().enumerate() {

@@ -1,10 +1,37 @@
 -- One step of a kept form.
-use Rattle.std.proofs.Common.{◌≡◌, ℕ, zero, suc, ◌+◌, ◌<◌, ◌≤◌, Bool, true, false, cond, ◌&&◌, List, [], ◌∷◌, length, drop, sym, refl, ap, ◌∙◌, arith}
-use Rattle.std.proofs.lemmas.List.{drop-drop}
-use Rattle.std.proofs.lemmas.Bool.{false≢true, cond-true, cond-false}
+use Rattle.std.proofs.Common.{◌≡◌, ℕ, zero, suc, ◌+◌, ◌<◌, ◌≤◌, Bool, true, false, cond, ◌&&◌, List, [], ◌∷◌, length, drop, sym, refl, ap, ◌∙◌, arith, eqb, get_or, length-drop}
+use Rattle.std.proofs.lemmas.List.{drop-drop, drop_more, drop_all}
+use Rattle.std.proofs.lemmas.Bool.{false≢true, cond-true, cond-false, eq-eqb, ne_eqb, and_parts}
 use Rattle.rules.specs.Bytes.{blank}
-use Rattle.rules.specs.Kept.{resolved_past, resolved, kept, kept_on, kept_gap}
+use Rattle.rules.specs.Kept.{resolved_past, resolved, kept, kept_on, kept_gap, starts}
 use Rattle.kinds.specs.Reading.{letter_of}
+
+-- a text begins with another, byte by byte
+pub starts_more : (ns bs : List ℕ) (i j : ℕ) → i < length ns → j < length bs → get_or ns i 0 ≡ get_or bs j 0 → starts (drop i ns) (drop j bs) ≡ starts (drop (i + 1) ns) (drop (j + 1) bs)
+starts_more ns bs i j h k e = rw (drop_more ns i 0 h, drop_more bs j 0 k, eq-eqb _ _ e)
+
+pub starts_differ : (ns bs : List ℕ) (i j : ℕ) → i < length ns → j < length bs → (get_or ns i 0 ≡ get_or bs j 0 → ⊥) → starts (drop i ns) (drop j bs) ≡ false
+starts_differ ns bs i j h k e = rw (drop_more ns i 0 h, drop_more bs j 0 k, ne_eqb _ _ e)
+
+pub starts_short : (ns bs : List ℕ) (i j : ℕ) → i < length ns → length bs ≤ j → starts (drop i ns) (drop j bs) ≡ false
+starts_short ns bs i j h k = rw (drop_more ns i 0 h, drop_all j bs k)
+
+pub starts_all : (ns bs : List ℕ) (i : ℕ) → length ns ≤ i → starts (drop i ns) bs ≡ true
+starts_all ns bs i h = rw (drop_all i ns h)
+
+pub starts_long : (ns bs : List ℕ) → starts ns bs ≡ true → length ns ≤ length bs
+starts_long [] bs e = omega arith
+starts_long (n ∷ ns) [] e = absurd (false≢true e)
+starts_long (n ∷ ns) (b ∷ bs) e = let h : length ns ≤ length bs = starts_long ns bs (and_parts (eqb n b) (starts ns bs) e).1 in omega arith
+
+pub text_fits : (ns raw : List ℕ) (at : ℕ) → at < length raw → true ≡ starts ns (drop at raw) → at + length ns ≤ length raw
+text_fits ns raw at h e = let l = starts_long ns _ (sym e) in omega (arith, length-drop at raw)
+
+pub letter_plain : (raw : List ℕ) (at : ℕ) → at < length raw → (get_or raw at 0 ≡ 38 → ⊥) → ◌≡◌ {A = ℕ × ℕ} (get_or raw at 0, 0) (letter_of (drop at raw))
+letter_plain raw at h e = let f : 38 ≡ get_or raw at 0 → ⊥ = λ g. e (sym g) in rw (drop_more raw at 0 h, ne_eqb 38 (get_or raw at 0) f)
+
+pub first_at : (raw : List ℕ) (at : ℕ) → at < length raw → get_or (drop at raw) 0 0 ≡ get_or raw at 0
+first_at raw at h = ap (λ s. get_or s 0 0) (drop_more raw at 0 h)
 
 -- what is left to give of a text, where begun says that a byte was given, and gap that a blank has come since
 abbrev pub left : Bool → Bool → List ℕ → List ℕ

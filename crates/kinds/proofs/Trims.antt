@@ -1,9 +1,9 @@
 -- Where the kept form of a value is the piece between its blanks.
-use Rattle.std.proofs.Common.{◌≡◌, ℕ, zero, suc, ◌+◌, ◌-◌, ◌<◌, ◌≤◌, Bool, true, false, not, List, [], ◌∷◌, length, get_or, take, drop, Some, None, Option, sym, refl, ap, ◌∙◌, subst, ⊎_elim, arith, MatchOption}
+use Rattle.std.proofs.Common.{◌≡◌, ℕ, zero, suc, ◌+◌, ◌-◌, ◌<◌, ◌≤◌, Bool, true, false, not, List, [], ◌∷◌, length, get_or, take, drop, Some, None, Option, sym, refl, ap, ◌∙◌, subst, ⊎_elim, arith, MatchOption, ◌&&◌, ◌++◌}
 use Rattle.std.specs.List.{prefix_len}
 use Rattle.std.specs.Bool.{then_some}
 use denote.Ref.{Bor}
-use Rattle.std.proofs.lemmas.List.{take_rest}
+use Rattle.std.proofs.lemmas.List.{take_rest, take_more, drop_more, drop_all}
 use Rattle.std.proofs.lemmas.Bool.{false≢true, both_ways, ne_eqb, and_parts, and_from, and_left, and_right, not-true, cases_Bool, cases_eq, cond-true, cond-false}
 use Rattle.rules.specs.Bytes.{blank, all}
 use Rattle.rules.specs.Markup.{Escape, amp, lt, gt, quot, apos, plain_byte}
@@ -43,6 +43,44 @@ module _ (s : List ℕ) (a n : ℕ) (start : a ≡ 0 + prefix_len blank s) where
       let e : a ≡ prefix_len blank s = omega arith in
       let ended : (k : ℕ) → suc k ≡ n → blank (get_or rest k 0) ≡ false = λ k l. let m : k ≡ n - 1 = omega arith in ap (λ j. blank (get_or rest j 0)) m ∙ g (omega arith) in
       before_is rest n h f ended ∙ ap before_blanks (take_rest s a ∙ ap (λ k. drop k s) e ∙ past_is s)
+
+-- a text without the blanks at an end, one byte on
+all_push : (xs : List ℕ) (b : ℕ) → blank b ≡ true → all blank (xs ++ (b ∷ [])) ≡ all blank xs
+all_push [] b e = rw e
+all_push (x ∷ xs) b e = ap (λ t. blank x && t) (all_push xs b e)
+
+not_all : (xs ys : List ℕ) (b : ℕ) → blank b ≡ false → all blank (xs ++ (b ∷ ys)) ≡ false
+not_all [] ys b e = and_left _ _ e
+not_all (x ∷ xs) ys b e = and_right _ _ (not_all xs ys b e)
+
+before_push : (xs : List ℕ) (b : ℕ) → blank b ≡ true → before_blanks (xs ++ (b ∷ [])) ≡ before_blanks xs
+before_push [] b e = rw e
+before_push (x ∷ xs) b e = rw (all_push xs b e, before_push xs b e)
+
+before_solid : (xs : List ℕ) (b : ℕ) → blank b ≡ false → before_blanks (xs ++ (b ∷ [])) ≡ xs ++ (b ∷ [])
+before_solid [] b e = rw e
+before_solid (x ∷ xs) b e = cond-false _ _ _ (and_right (blank x) _ (not_all xs [] b e)) ∙ ap (λ s. x ∷ s) (before_solid xs b e)
+
+last_of : (s : List ℕ) (n : ℕ) → 0 < n → n ≤ length s → take n s ≡ take (n - 1) s ++ (get_or s (n - 1) 0 ∷ [])
+last_of s n h l = let e : n - 1 + 1 ≡ n = omega arith in ap (λ k. take k s) (sym e) ∙ take_more s (n - 1) 0 (omega arith)
+
+pub before_less : (s : List ℕ) (n : ℕ) → 0 < n → n ≤ length s → blank (get_or s (n - 1) 0) ≡ true → before_blanks (take n s) ≡ before_blanks (take (n - 1) s)
+before_less s n h l e = ap before_blanks (last_of s n h l) ∙ before_push (take (n - 1) s) (get_or s (n - 1) 0) e
+
+pub before_stop : (s : List ℕ) (n : ℕ) → 0 < n → n ≤ length s → blank (get_or s (n - 1) 0) ≡ false → take n s ≡ before_blanks (take n s)
+before_stop s n h l e = let is = last_of s n h l in is ∙ sym (before_solid (take (n - 1) s) (get_or s (n - 1) 0) e) ∙ ap before_blanks (sym is)
+
+pub past_more : (s : List ℕ) (i : ℕ) → i < length s → blank (get_or s i 0) ≡ true → past_blanks (drop i s) ≡ past_blanks (drop (i + 1) s)
+past_more s i h e = ap past_blanks (drop_more s i 0 h) ∙ cond-true _ _ _ e
+
+pub past_stop : (s : List ℕ) (i : ℕ) → i < length s → blank (get_or s i 0) ≡ false → drop i s ≡ past_blanks (drop i s)
+past_stop s i h e = let is = drop_more s i 0 h in is ∙ sym (cond-false _ _ _ e) ∙ ap past_blanks (sym is)
+
+pub past_end : (s : List ℕ) (i : ℕ) → length s ≤ i → past_blanks (drop i s) ≡ past_blanks s → drop (length s) s ≡ past_blanks s
+past_end s i h e = drop_all (length s) s (omega arith) ∙ sym (ap past_blanks (drop_all i s h)) ∙ e
+
+pub before_end : (s : List ℕ) (n : ℕ) → n ≤ 0 → before_blanks (take n s) ≡ before_blanks s → [] ≡ before_blanks s
+before_end s n h e = let z : n ≡ 0 = omega arith in sym (ap (λ k. before_blanks (take k s)) z) ∙ e
 
 -- what an '&' means is neither a blank nor plain
 amp_way : (o : Option Escape) → (blank (meant o 38) ≡ false) × (plain_byte (meant o 38) ≡ false)

@@ -17,7 +17,7 @@ fn node_names(document: &[u8], event: Event) -> Result<(), Fault>
     ensures { (o : Occurrence) → event ≡ told o → Found document.now o → Starts o → Judgement (Met NamesFault o) (fault_of result) }
 {
     if let Some(opened) = event.opened() {
-        attributes(document, &opened)?;
+        attributes(document, opened.place, opened.attributes, opened.node)?;
     }
     Ok(())
 }

@@ -1,5 +1,5 @@
 -- What the spelling of characters says of the beginnings of a text.
-use Rattle.std.proofs.Common.{◌≡◌, ℕ, ◌+◌, ◌<◌, true, List, [], ◌∷◌, ◌++◌, length, take, drop, IsUtf8, sym, refl, ap, ◌∙◌, subst, ⊎_elim, arith, length-append, take-append-drop, length-take}
+use Rattle.std.proofs.Common.{◌≡◌, ℕ, ◌+◌, ◌<◌, true, List, [], ◌∷◌, ◌++◌, length, take, drop, IsUtf8, sym, refl, ap, ◌∙◌, subst, ⊎_elim, arith, length-append, take-append-drop, length-take, ◌≤◌}
 use lib.Utf8.{encode, encodes, scalar, scalars}
 use Rattle.std.specs.Str.{IsValidUpTo}
 use Rattle.std.proofs.lemmas.List.{append_assoc, append-nil, take-take, take_at, nil_from_length}
@@ -55,6 +55,9 @@ more {bs} {rest} {next} c s h e =
       whole = append_assoc s.front (encode c) next ∙ ap (λ x. s.front ++ x) (sym e) ∙ s.whole;
       long = simp length-append (ap (λ n. n + length (encode c)) s.long);
     }
+
+pub within : {bs rest : List ℕ} {at : ℕ} → Sofar bs at rest → at ≤ length bs
+within s = omega (arith, s.long, simp length-append at (ap length s.whole))
 
 pub ended : {bs rest : List ℕ} {at : ℕ} → Sofar bs at rest → length rest ≡ 0 → Spelled bs
 ended {bs} {rest} s e = subst Spelled (sym (append-nil s.front) ∙ ap (λ x. s.front ++ x) (sym (nil_from_length rest e)) ∙ s.whole) s.spelled

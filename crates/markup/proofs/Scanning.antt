@@ -1,7 +1,7 @@
 -- What the scans over the bytes of a text find, by the places of its bytes.
 use Rattle.std.proofs.Common.{◌≡◌, ℕ, zero, suc, ◌+◌, ◌-◌, ◌<◌, ◌≤◌, Bool, true, false, cond, eqb, List, [], ◌∷◌, length, get_or, drop, ◌≢◌, zip, sym, refl, ap, ◌∙◌, subst, ⊎_elim, arith, length-drop, get_or-drop}
 use Rattle.std.specs.List.{prefix_len, common_prefix_len}
-use Rattle.std.proofs.lemmas.Bool.{eqb-true, both_ways, eq-eqb, cases_Bool}
+use Rattle.std.proofs.lemmas.Bool.{eqb-true, both_ways, eq-eqb, cases_Bool, cases_lt}
 use Rattle.std.proofs.lemmas.List.Sums.{prefix_len-le-length, prefix_len_passes, prefix_len_stops, common_prefix_len-le}
 
 -- from i on the bytes of d pass a test up to j, and no further
@@ -17,6 +17,11 @@ pub record Shares (d : List ℕ) (i : ℕ) (u : List ℕ) (k : ℕ) : Type 0 whe
   pub short : k ≤ length u
   pub same : (m : ℕ) → m < k → get_or d (i + m) 0 ≡ get_or u m 0
   pub differ : i + k < length d → k < length u → get_or d (i + k) 0 ≢ get_or u k 0
+
+-- the byte at j passes the test too
+pub each_more : (test : ℕ → Bool) (d : List ℕ) (i j : ℕ) → ((k : ℕ) → i ≤ k → k < j → test (get_or d k 0) ≡ true) → test (get_or d j 0) ≡ true → (k : ℕ) → i ≤ k → k < j + 1 → test (get_or d k 0) ≡ true
+each_more test d i j each here k le lt =
+    ⊎_elim (λ less. each k le less) (λ more. subst (λ n. test (get_or d n 0) ≡ true) (omega arith) here) (cases_lt k j)
 
 pub skips : {test : ℕ → Bool} {d : List ℕ} {i j : ℕ} → i ≤ length d → j ≡ i + prefix_len test (drop i d) → Skips test d i j
 skips {test} {d} {i} {j} le e =

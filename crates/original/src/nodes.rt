@@ -15,7 +15,7 @@ ghost use Rattle.original.specs.Totals.{no_totals, Sound, SoundAt, opened_fields
 ghost use Rattle.original.specs.Wrote.{owed, Wrote, Same, WellNamed};
 
 use crate::fields::Fields;
-use reader::{Slots, attributes};
+use reader::{LentSlots, lent_slots};
 use rules::Node;
 use schema::row_numbers::impuestos;
 use schema::{Row, rows};
@@ -34,12 +34,12 @@ fn namespaces(node: Node) -> usize
 }
 
 /// Where the attributes of a node stand; nowhere, if there is a fault in their names.
-fn slots_of<'d>(document: &'d [u8], found: &Opened) -> Slots<'d>
+fn slots_of<'d>(document: &'d [u8], found: &Opened) -> LentSlots<'d>
     ensures { (gs : List Given) → Sound document.now found.now.node found.now.place found.now.attributes gs → Filled document.now (rows_of found.now.node) gs result.spans }
 {
-    match attributes(document, found) {
+    match lent_slots(document, found) {
         Ok(slots) => slots,
-        Err(_) => Slots {
+        Err(_) => LentSlots {
             document,
             spans: [None; 22],
         },
@@ -59,7 +59,7 @@ impl<'a, 'd, W: Writer> Fields<'a, 'd, W> {
     }
 
     /// Writes the attributes of a node that are part of the cadena, in table order.
-    fn own(&mut self, node: Node, slots: &Slots) -> Result<(), Refused>
+    fn own(&mut self, node: Node, slots: &LentSlots) -> Result<(), Refused>
         ensures wrote { Wrote W.Writer.writing self.old (own_fields (attributes_of node) (map (text_in self.old.document.now) (drop (length (namespaces_of node)) slots.now.spans))) (owed self.old) result self.new }
         ensures same { Same self.old self.new }
     {

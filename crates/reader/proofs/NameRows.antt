@@ -1,11 +1,11 @@
 -- Steps through the rows of a node's attributes.
-use Rattle.std.proofs.Common.{◌≡◌, ℕ, suc, ◌+◌, ◌≤◌, Bool, cond, not, ◌&&◌, ◌||◌, leb, List, [], ◌∷◌, map, length, get_or, drop, is_some, Some, None, Option, sym, refl, ap, ◌∙◌, inl, inr, zero-add, arith}
+use Rattle.std.proofs.Common.{◌≡◌, ℕ, suc, ◌+◌, ◌≤◌, Bool, cond, not, ◌&&◌, ◌||◌, leb, List, [], ◌∷◌, map, length, get_or, drop, is_some, Some, None, Option, sym, refl, ap, ◌∙◌, inl, inr, zero-add, arith, ◌<◌, true, false, ◌⊎◌, Decides, ⊎_elim}
 use lib.ListN.{length-map}
 use lib.Dec.{ltb}
 use Rattle.std.specs.List.{position_or_len, list_any, zip}
 use Rattle.std.proofs.lemmas.Grind.{common_steps}
-use Rattle.std.proofs.lemmas.List.{drop_more}
-use Rattle.std.proofs.lemmas.Bool.{leb-true, cases_Bool}
+use Rattle.std.proofs.lemmas.List.{drop_more, drop_all, drop-map}
+use Rattle.std.proofs.lemmas.Bool.{leb-true, cases_Bool, cond-true, cond-false, or_left, and_from, and_left, and_right, not_from_false, not_from_true}
 use Rattle.std.specs.Str.{bytes_eq}
 use Rattle.std.proofs.lemmas.Slice.Eq.{slice_eq-Decides}
 use Rattle.std.proofs.lemmas.Bool.Decides.{Decides-eqb}
@@ -62,3 +62,35 @@ lacks_from (r ∷ rs) i s h =
 
 pub lacks-any : (rs : List Row) (s : List (Option Span)) → length rs ≤ length s → list_any lacks_value (zip rs s) ≡ lacks (map row_meant rs) 0 s
 lacks-any rs s h = lacks_from rs 0 s (omega arith)
+
+-- the row i, and those that follow it
+module _ (rs : List Row) (i : ℕ) (z : Row) (within : i < length rs) where
+  at_row : drop i (map row_meant rs) ≡ row_meant (get_or rs i z) ∷ drop (i + 1) (map row_meant rs)
+  at_row = drop-map row_meant i rs ∙ ap (map row_meant) (drop_more rs i z within) ∙ ap (λ x. row_meant (get_or rs i z) ∷ x) (sym (drop-map row_meant (i + 1) rs))
+
+  -- its name has been compared with another
+  module _ (n : List ℕ) (r : Bool) (eq : Decides r ((get_or rs i z).name.now ≡ n)) where
+    pub here : r ≡ true → row_at (drop i (map row_meant rs)) i n ≡ Some i
+    here h = ap (λ x. row_at x i n) at_row ∙ cond-true _ _ _ (same_from _ n r eq ∙ h)
+
+    pub beyond : r ≡ false → row_at (drop i (map row_meant rs)) i n ≡ row_at (drop (i + 1) (map row_meant rs)) (i + 1) n
+    beyond h = ap (λ x. row_at x i n) at_row ∙ cond-false _ _ _ (same_from _ n r eq ∙ h)
+
+no_rows : (rs : List Row) (i : ℕ) → length rs ≤ i → drop i (map row_meant rs) ≡ []
+no_rows rs i h = drop-map row_meant i rs ∙ ap (map row_meant) (drop_all i rs h)
+
+pub nowhere : (rs : List Row) (i : ℕ) (n : List ℕ) → length rs ≤ i → row_at (drop i (map row_meant rs)) i n ≡ None
+nowhere rs i n h = ap (λ x. row_at x i n) (no_rows rs i h)
+
+-- whether the row i lacks its value
+module _ (rs : List Row) (s : List (Option Span)) (i : ℕ) (z : Row) (within : i < length rs) where
+  pub lacks_here : (get_or rs i z).required ≡ true → is_some (get_or s i None) ≡ false → lacks (drop i (map row_meant rs)) i s ≡ true
+  lacks_here h k = ap (λ x. lacks x i s) (at_row rs i z within) ∙ or_left _ _ (and_from _ _ h (not_from_false _ k))
+
+  pub lacks_later : ((get_or rs i z).required ≡ false) ⊎ (is_some (get_or s i None) ≡ true) → lacks (drop i (map row_meant rs)) i s ≡ lacks (drop (i + 1) (map row_meant rs)) (i + 1) s
+  lacks_later h =
+      ap (λ x. lacks x i s) (at_row rs i z within)
+      ∙ ap (λ b. b || lacks (drop (i + 1) (map row_meant rs)) (i + 1) s) (⊎_elim (and_left _ _) (λ k. and_right (get_or rs i z).required _ (not_from_true _ k)) h)
+
+pub lacks_none : (rs : List Row) (s : List (Option Span)) (i : ℕ) → length rs ≤ i → lacks (drop i (map row_meant rs)) i s ≡ false
+lacks_none rs s i h = ap (λ x. lacks x i s) (no_rows rs i h)

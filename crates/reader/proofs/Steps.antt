@@ -62,8 +62,17 @@ module _ (cs : List Child) (i j n : ℕ) (z : Child) (within : i < length cs) wh
     pub goes_on : r ≡ false → (get_or cs i z).least ≤ n → step (drop i (map child_meant cs)) j n name ≡ step (drop (i + 1) (map child_meant cs)) (j + 1) 0 name
     goes_on h l = ap (λ x. step x j n name) at_row ∙ cond-false _ _ _ (tested ∙ h) ∙ cond-false _ _ _ (le-ltb _ _ l)
 
+  pub lacks : n < (get_or cs i z).least → enough (drop i (map child_meant cs)) n ≡ false
+  lacks l = ap (λ x. enough x n) at_row ∙ cond-true _ _ _ (lt-ltb _ _ l)
+
+  pub has_enough : (get_or cs i z).least ≤ n → enough (drop i (map child_meant cs)) n ≡ enough (drop (i + 1) (map child_meant cs)) 0
+  has_enough l = ap (λ x. enough x n) at_row ∙ cond-false _ _ _ (le-ltb _ _ l)
+
 pub no_row : (cs : List Child) (i j n : ℕ) (name : List ℕ) → length cs ≤ i → step (drop i (map child_meant cs)) j n name ≡ None
 no_row cs i j n name h = ap (λ x. step x j n name) (drop-map child_meant i cs ∙ ap (map child_meant) (drop_all i cs h))
+
+pub all_enough : (cs : List Child) (i n : ℕ) → length cs ≤ i → enough (drop i (map child_meant cs)) n ≡ true
+all_enough cs i n h = ap (λ x. enough x n) (drop-map child_meant i cs ∙ ap (map child_meant) (drop_all i cs h))
 
 -- whether a row asks for no child
 abbrev pub asks_none : Child → Bool

@@ -8,40 +8,30 @@ ghost use Rattle.rules.specs.Located.{givens};
 ghost use Rattle.rules.specs.Markup.{Attribute, attribute_ok};
 ghost use Rattle.theory.specs.On.{attributes_on, closes};
 ghost use Rattle.reader.specs.Names.{row_at, taken, with_span, filled, refusal, lacks, refusing};
-ghost use Rattle.reader.specs.Slots.{standing_of, raw_in, lent, Filled};
+ghost use Rattle.reader.specs.Slots.{standing_of, Filled};
 
 use rules::{Fault, Node};
 use schema::rows;
 use tags::{AttributeSpan, Attributes, Span};
-use walk::Opened;
 
-/// Where the raw values of a node's attributes stand in a document, one slot for each row of the node's table.
+/// Where the raw values of a node's attributes stand, one slot for each row of the node's table.
 #[derive(Clone, Copy)]
-pub struct Slots<'a> {
-    pub document: &'a [u8],
+pub struct Slots {
     pub spans: [Option<Span>; 22],
 }
 
-impl<'a> Slots<'a> {
+impl Slots {
     /// The span in the slot of a row; none where the slot is empty, and past the slots.
-    pub fn span(&self, row: usize) -> Option<Span>
-        ensures slot { result ≡ slice_index_or self.now.spans row None }
+    pub fn get(&self, row: usize) -> Option<Span>
+        ensures slot { row < 22 → result ≡ slice_index_or self.now.spans row None }
         ensures past { 22 ≤ row → result ≡ None }
     {
-        *self.spans.get(row)?
-    }
-
-    /// The raw value whose span is in the slot of a row.
-    pub fn raw(&self, row: usize) -> Option<&'a [u8]>
-        ensures { lent result ≡ raw_in self.now.document.now (slice_index_or self.now.spans row None) }
-    {
-        Some(self.span(row)?.of(self.document))
+        if row < 22 { self.spans[row] } else { None }
     }
 
     /// Puts the value of an attribute into the slot of its row; it is refused where there is no row, or its slot is full.
     fn put(&mut self, row: Option<usize>, attribute: AttributeSpan) -> Result<(), Fault>
         requires { IfSome row (λ j. j < 22) }
-        ensures same { self.new.document.now ≡ self.old.document.now }
         ensures after { self.new.spans ≡ with_span row self.old.spans attribute.value }
         ensures refused { fault_of result ≡ (if taken row self.old.spans then Some (AttributeRefused attribute.name.start) else None) }
     {
@@ -67,23 +57,19 @@ fn row_of(node: Node, name: &[u8]) -> Option<usize>
 
 /// The slots that one pass over a tag fills, and the first attribute that no row names or that was given before.
 #[derive(Clone, Copy)]
-pub struct Collected<'a> {
-    pub slots: Slots<'a>,
+pub struct Collected {
+    pub slots: Slots,
     pub refused: Result<(), Fault>,
 }
 
-/// Goes through the attributes of the tag of a node that is opened.
-fn collect<'a>(document: &'a [u8], opened: &Opened) -> Collected<'a>
-    ensures document { result.slots.document.now ≡ document.now }
-    ensures pass { (l : List Attribute) (g z : List ℕ) → all attribute_ok l ≡ true → all blank g ≡ true → closes z ≡ true → drop opened.now.attributes document.now ≡ attributes_on l (g ++ z) → (result.slots.spans ≡ filled (rows_of opened.now.node) (replicate 22 None) opened.now.attributes l) × (fault_of result.refused ≡ refusing (refusal (rows_of opened.now.node) (replicate 22 None) opened.now.attributes l)) }
+/// Goes through the attributes of the tag of a node, which begin at `at`.
+fn collect(document: &[u8], at: usize, node: Node) -> Collected
+    ensures { (l : List Attribute) (g z : List ℕ) → all attribute_ok l ≡ true → all blank g ≡ true → closes z ≡ true → drop at document.now ≡ attributes_on l (g ++ z) → (result.slots.spans ≡ filled (rows_of node) (replicate 22 None) at l) × (fault_of result.refused ≡ refusing (refusal (rows_of node) (replicate 22 None) at l)) }
 {
-    let mut slots = Slots {
-        document,
-        spans: [None; 22],
-    };
+    let mut slots = Slots { spans: [None; 22] };
     let mut refused = Ok(());
-    for a in Attributes::new(document, opened.attributes) {
-        let row = row_of(opened.node, a.name.of(document));
+    for a in Attributes::new(document, at) {
+        let row = row_of(node, a.name.of(document));
         refused = refused.and(slots.put(row, a));
     }
     Collected { slots, refused }
@@ -99,17 +85,14 @@ fn missing(node: Node, slots: &Slots) -> bool
         .any(|(row, slot)| row.required && slot.is_none())
 }
 
-/// Judges the names of the attributes of a node that is opened, and gives, where they are lawful, a slot for each row. A missing attribute stands at the node's own place, before any that is refused.
-pub fn attributes<'a>(document: &'a [u8], opened: &Opened) -> Result<Slots<'a>, Fault>
-    ensures judges { (l : List Attribute) (g z : List ℕ) → all attribute_ok l ≡ true → all blank g ≡ true → closes z ≡ true → drop opened.now.attributes document.now ≡ attributes_on l (g ++ z) → opened.now.place < opened.now.attributes → Judgement (NamesFault (standing_of opened.now.node opened.now.place (givens opened.now.attributes l))) (fault_of result) }
-    ensures holds { (l : List Attribute) (g z : List ℕ) → all attribute_ok l ≡ true → all blank g ≡ true → closes z ≡ true → drop opened.now.attributes document.now ≡ attributes_on l (g ++ z) → IfOk result (λ s. Filled document.now (rows_of opened.now.node) (givens opened.now.attributes l) s.spans) }
-    ensures document { IfOk result (λ s. s.document.now ≡ document.now) }
+/// Judges the names of the attributes of one tag, which begin at `at`, for a node whose `<` stands at `node_at`; and gives, where they are lawful, a slot for each row. A missing attribute stands at the node's own place, before any that is refused.
+pub fn attributes(document: &[u8], node_at: usize, at: usize, node: Node) -> Result<Slots, Fault>
+    ensures judges { (l : List Attribute) (g z : List ℕ) → all attribute_ok l ≡ true → all blank g ≡ true → closes z ≡ true → drop at document.now ≡ attributes_on l (g ++ z) → node_at < at → Judgement (NamesFault (standing_of node node_at (givens at l))) (fault_of result) }
+    ensures holds { (l : List Attribute) (g z : List ℕ) → all attribute_ok l ≡ true → all blank g ≡ true → closes z ≡ true → drop at document.now ≡ attributes_on l (g ++ z) → IfOk result (λ s. Filled document.now (rows_of node) (givens at l) s.spans) }
 {
-    let collected = collect(document, opened);
-    if missing(opened.node, &collected.slots) {
-        return Err(Fault::AttributeMissing {
-            place: opened.place,
-        });
+    let collected = collect(document, at, node);
+    if missing(node, &collected.slots) {
+        return Err(Fault::AttributeMissing { place: node_at });
     }
     collected.refused?;
     Ok(collected.slots)

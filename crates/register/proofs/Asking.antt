@@ -8,9 +8,9 @@ use Rattle.rules.specs.Located.{elements_of}
 use Rattle.rules.specs.Values.{Values, values_of}
 use Rattle.rules.specs.Texts.{cadena}
 use Rattle.rules.specs.Grounds.{HasValues}
-use Rattle.rules.specs.Register.{nth, four_bytes, packed, Phase, used_up, in_phase, ask_cadena, ask_fair_copy, read_out, sending, gives, sends, Pairwise, none_left, one_more, lines}
+use Rattle.rules.specs.Register.{nth, four_bytes, packed, Phase, used_up, in_phase, ask_cadena, ask_fair_copy, read_out, sending, gives, sends, Pairwise, none_left, one_more, lines, opened, closed, State, Call, Answer, Step, ask_count}
 use Rattle.markup.proofs.Decided.{markup_decided}
-use Rattle.promises.specs.Stored.{place_of_entry}
+use Rattle.promises.specs.Stored.{place_of_entry, state_at}
 use Rattle.promises.proofs.Places.{nth_later}
 use Rattle.promises.proofs.Stored.{holds_true, stands_at}
 use Rattle.promises.proofs.StoredCopies.{stored_copy, stored_values, stored_cadena}
@@ -25,6 +25,7 @@ use Rattle.register.specs.Sending.{Sends}
 use Rattle.register.specs.declared.Register.{Register}
 use Rattle.register.specs.declared.phases.Closed.{Closed}
 use Rattle.register.proofs.Cadenas.{stored_in_order, stored_named}
+use Rattle.rules.specs.Sinks.{Sink}
 
 module _ {P : Type 0} (s : Register P) (n : ℕ) (c : List ℕ) (at : nth (texts s) n ≡ Some c) where
   -- a stored text is well-marked
@@ -93,3 +94,24 @@ module _ {S : Type 0} {sink : Ghosts S} where
       f (lines vs) (record { values = vs; have_values = subst (λ l. Pairwise HasValues l vs) (sym same) p; is = refl }) (omega (arith, lines_short p (λ n c at v h. stored_cadena s.copies n c at v h), held.used_is, held.fits)) in
       let (vs, p) = all_values (texts s) (stored_value s) in
       record { step = (refl, (λ ws q. sends_text (sent ws q), refl)); same_rule = (sent vs p).sent.same_rule; stayed = (sent vs p).stayed }
+
+-- an open register, and a closed one, is not used up
+pub opened_live : opened ≡ used_up → ⊥
+opened_live e = let z : ◌≡◌ {A = ℕ} 0 1 = cc in omega arith
+
+pub closed_live : closed ≡ used_up → ⊥
+closed_live e = let z : ◌≡◌ {A = ℕ} 0 1 = cc in omega arith
+
+-- equal memories mean one register
+pub state_same : (p : Phase) {m n : List ℕ} {used used' count count' : ℕ} → m ≡ n → used ≡ used' → count ≡ count' → state_at p m used count ≡ state_at p n used' count'
+state_same p a b c = λ i. state_at p (a i) (b i) (c i)
+
+pub counted_of : {s t : State} {a : Answer} → s ≡ t → Step s ask_count a s → Step t ask_count a t
+counted_of {a = a} e x = subst (λ u. Step u ask_count a u) e x
+
+module _ {S : Type 0} {sink : Ghosts S} {s t : State} {call : Sink → Call} {k k' : S} {r : Result (Unit {0}) Fault} where
+  pub asked_of : s ≡ t → Sends sink s call k r k' s → Sends sink t call k r k' t
+  asked_of e x = subst (λ u. Sends sink u call k r k' u) e x
+
+  pub read_out_of : s ≡ t → Sends sink s call k r k' (in_phase used_up s) → Sends sink t call k r k' (in_phase used_up t)
+  read_out_of e x = subst (λ u. Sends sink u call k r k' (in_phase used_up u)) e x

@@ -20,10 +20,13 @@ impl<P> Register<'_, P> {
         }
     }
 
-    /// The text of an entry, if there is one with this number.
+    /// The text of an entry, if there is one with this number; none is gone through where the number is past the count.
     pub(crate) fn text(&self, number: u16) -> Option<&[u8]>
         ensures { MatchOption result (nth (texts self.now) number ≡ None) (λ t. nth (texts self.now) number ≡ Some t.now) }
     {
+        if number > self.count {
+            return None;
+        }
         let before = number.checked_sub(1)?;
         self.texts().nth(before as usize)
     }

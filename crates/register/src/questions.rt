@@ -29,7 +29,7 @@ impl<P: Phase> Register<'_, P> {
     pub fn fair_copy<S: Sink>(&self, number: u16, sink: &mut S) -> Result<(), Fault>
         ensures { Sends S.Sink (state_of P.phase self.now) (Call.ask_fair_copy number) sink.old result sink.new (state_of P.phase self.now) }
     {
-        let text = self.text(number).ok_or(Fault::NoEntry)?;
-        send_to(sink, text)
+        let copy = self.text(number).ok_or(Fault::NoEntry)?;
+        send_to(sink, copy)
     }
 }

@@ -1,10 +1,10 @@
 -- Runs of bytes at the front of what is left of a text.
-use Rattle.std.proofs.Common.{◌≡◌, ℕ, suc, ◌+◌, ◌-◌, ◌<◌, ◌≤◌, Bool, true, List, [], ◌∷◌, ◌++◌, length, get_or, take, drop, sym, refl, ap, ◌∙◌, add-zero, one-add, arith}
-use Rattle.std.proofs.lemmas.List.{drop-drop, drop_at, take_at, get_or-drop, length-drop}
-use Rattle.std.proofs.lemmas.Bool.{cond-true, cond-false, and_parts, not-true, eq-eqb}
+use Rattle.std.proofs.Common.{◌≡◌, ℕ, suc, ◌+◌, ◌-◌, ◌<◌, ◌≤◌, Bool, true, false, eqb, List, [], ◌∷◌, ◌++◌, length, get_or, take, drop, sym, refl, ap, ◌∙◌, add-zero, one-add, arith}
+use Rattle.std.proofs.lemmas.List.{drop-drop, drop_at, drop_more, take_at, get_or-drop, length-drop}
+use Rattle.std.proofs.lemmas.Bool.{cond-true, cond-false, and_parts, not-true, not_from_false, not_from_true, ne_eqb, eq-eqb}
 use Rattle.std.proofs.lemmas.Bool.Decides.{nat_tests}
 use Rattle.rules.specs.Bytes.{all}
-use Rattle.tags.specs.Scan.{through}
+use Rattle.tags.specs.Scan.{through, ended}
 use Rattle.std.specs.List.{prefix_len}
 use Rattle.byte_classes.specs.Runs.{other}
 use Rattle.theory.specs.On.{stops}
@@ -23,6 +23,13 @@ pub scanned : (p : ℕ → Bool) (d xs r : List ℕ) (i e : ℕ) → e ≡ i + p
 scanned p d xs r i e h a s f =
     let g : e ≡ i + length xs = h ∙ ap (λ n. i + n) (ap (prefix_len p) f ∙ prefix_len_at p xs r a s) in
     (g, ap (λ n. drop n d) g ∙ past d xs r i f)
+
+-- a byte that is q, and one that is not
+pub other_true : (q b : ℕ) → (b ≡ q → ⊥) → other q b ≡ true
+other_true q b h = not_from_false _ (ne_eqb b q h)
+
+pub other_false : (q b : ℕ) → b ≡ q → other q b ≡ false
+other_false q b h = not_from_true _ (eq-eqb b q h)
 
 -- a byte of what is left
 pub lies_less : (d xs : List ℕ) (x i : ℕ) → drop i d ≡ x ∷ xs → i < length d
@@ -63,3 +70,15 @@ passed q d xs rest i r h a e =
     go : (ys : List ℕ) → all (other q) ys ≡ true → through q (ys ++ q ∷ rest) ≡ length ys + 1
     go [] a = cond-true _ _ _ (eq-eqb q q refl)
     go (y ∷ ys) a = let (u, v) = and_parts _ _ a in let w = go ys v in cond-false _ _ _ (not-true _ u) ∙ omega arith
+
+-- what stands in an element ends, by the bytes that are left
+pub ended_short : (d : List ℕ) (i : ℕ) → length d < i + 2 → true ≡ ended (drop i d)
+ended_short d i l = go (drop i d) (sym (length-drop i d))
+  where
+    go : (xs : List ℕ) → length d - i ≡ length xs → true ≡ ended xs
+    go [] e = refl
+    go (x ∷ []) e = refl
+    go (x ∷ y ∷ xs) e = absurd (omega arith)
+
+pub ended_long : (d : List ℕ) (i : ℕ) → i + 1 < length d → eqb (get_or d (i + 1) 0) 47 ≡ ended (drop i d)
+ended_long d i l = sym (ap ended (drop_more d i 0 (omega arith) ∙ ap (λ x. get_or d i 0 ∷ x) (drop_more d (i + 1) 0 l)))

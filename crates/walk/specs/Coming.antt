@@ -1,5 +1,5 @@
 -- What is still to come of a document from a place in it.
-use Rattle.std.specs.Prelude.{◌≡◌, ℕ, ◌+◌, ◌-◌, Bool, true, false, ◌&&◌, ◌||◌, List, [], ◌∷◌, ◌++◌, length, drop, ◌<◌, Some, None, Option, MatchOption, ◌==◌}
+use Rattle.std.specs.Prelude.{◌≡◌, ℕ, ◌+◌, ◌-◌, Bool, true, false, ◌&&◌, ◌||◌, List, [], ◌∷◌, ◌++◌, length, drop, ◌<◌, ◌≤◌, Some, None, Option, IfSome, MatchOption, ◌==◌}
 use Rattle.rules.specs.Bytes.{all}
 use Rattle.rules.specs.Markup.{Content, content_ok, text, Document}
 use Rattle.rules.specs.Located.{Elements, none, element, located, elements_of}
@@ -66,10 +66,12 @@ Gives (o ∷ os) d r w = (r ≡ Some (told o)) × Found d o × Comes w os
 abbrev pub left : Walk → ℕ
 left w = length w.document.now - w.at
 
--- one call: the walk stays over its document, has less of it before it where it meets anything and else does not move, and meets the first of what was to come
+-- one call: the walk stays over its document, goes on within it and has less of it before it where it meets anything and else does not move,
+-- and meets the first of what was to come
 pub record Meets (old : Walk) (r : Option Event) (new : Walk) : Type 0 where
   pub same : new.document.now ≡ old.document.now
   pub falls : MatchOption r (new ≡ old) (λ _. left new < left old)
+  pub within : IfSome r (λ _. (old.at < new.at) × (new.at ≤ length new.document.now))
   pub gives : (os : List Occurrence) → Comes old os → Gives os old.document.now r new
 
 -- no node is misplaced or unfinished

@@ -1,5 +1,5 @@
 // A walk through the nodes of a document.
-ghost use Rattle.std.specs.Prelude.{◌≡◌, ◌+◌, ◌<◌, true, false, length, drop};
+ghost use Rattle.std.specs.Prelude.{◌≡◌, ◌+◌, ◌<◌, ◌≤◌, true, false, length, drop, IfSome};
 ghost use Rattle.std.specs.Iterator.{at_most};
 ghost use Rattle.std.specs.List.{prefix_len};
 ghost use Rattle.rules.specs.Bytes.{blank};
@@ -39,7 +39,8 @@ impl<'a> Walk<'a> {
         requires within { place < length self.old.document.now }
         requires reached { place ≡ self.old.at + prefix_len blank (drop self.old.at self.old.document.now) }
         requires ends { shuts (drop place self.old.document.now) ≡ true }
-        ensures { Meets self.old result self.new }
+        ensures meets { Meets self.old result self.new }
+        ensures within { IfSome result (λ _. (place < self.new.at) × (self.new.at ≤ length self.new.document.now)) }
     {
         let node = self.open?;
         self.at = after(self.document, place);
@@ -52,7 +53,8 @@ impl<'a> Walk<'a> {
         requires within { place + 1 < length self.old.document.now }
         requires reached { place ≡ self.old.at + prefix_len blank (drop self.old.at self.old.document.now) }
         requires begins { shuts (drop place self.old.document.now) ≡ false }
-        ensures { Meets self.old result self.new }
+        ensures meets { Meets self.old result self.new }
+        ensures within { IfSome result (λ _. (place < self.new.at) × (self.new.at ≤ length self.new.document.now)) }
     {
         let attributes = skip(NameByte, self.document, place + 1);
         let close = tag_end(self.document, attributes);

@@ -9,21 +9,21 @@ use Rattle.reader.proofs.names.attributes.Goals as goal
 
 pub returns-then-missing-clause-judges : goal.returns-then-missing-clause-judges
 returns-then-missing-clause-judges c = λ l g z h hg hz e low.
-    let (s, r) = c.collect-collected.ensures.pass l g z h hg hz e in
-    judged_names c.args.document.now c.args.opened.now.node c.args.opened.now.attributes l (g ++ z) h e _ s c.args.opened.now.place low true _ refl (sym c.if-missing.true ∙ c.missing.ensures)
+    let (s, r) = c.collect-collected.ensures l g z h hg hz e in
+    judged_names c.args.document.now c.args.node c.args.at l (g ++ z) h e _ s c.args.node_at low true _ refl (sym c.if-missing.true ∙ c.missing.ensures)
 
 pub returns-in_err-collected-clause-judges : goal.returns-in_err-collected-clause-judges
 returns-in_err-collected-clause-judges c = λ l g z h hg hz e low.
-    let (s, r) = c.collect-collected.ensures.pass l g z h hg hz e in
+    let (s, r) = c.collect-collected.ensures l g z h hg hz e in
     let told = err_from_is_err_and c.from_residual.result c.from_residual.ensures.1 in
-    rw (told.1, told.2) (subst (Judgement (NamesFault (standing_of c.args.opened.now.node c.args.opened.now.place (givens c.args.opened.now.attributes l)))) (sym r ∙ ap fault_of c.in_err-collected.was)
-    (judged_names c.args.document.now c.args.opened.now.node c.args.opened.now.attributes l (g ++ z) h e _ s c.args.opened.now.place low false _ refl (sym c.if-missing.false ∙ c.missing.ensures)))
+    rw (told.1, told.2) (subst (Judgement (NamesFault (standing_of c.args.node c.args.node_at (givens c.args.at l)))) (sym r ∙ ap fault_of c.in_err-collected.was)
+    (judged_names c.args.document.now c.args.node c.args.at l (g ++ z) h e _ s c.args.node_at low false _ refl (sym c.if-missing.false ∙ c.missing.ensures)))
 
 pub returns-clause-judges : goal.returns-clause-judges
 returns-clause-judges c = λ l g z h hg hz e low.
-    let (s, r) = c.collect-collected.ensures.pass l g z h hg hz e in
-    subst (Judgement (NamesFault (standing_of c.args.opened.now.node c.args.opened.now.place (givens c.args.opened.now.attributes l)))) (sym r ∙ ap fault_of c.in_ok-collected.was)
-    (judged_names c.args.document.now c.args.opened.now.node c.args.opened.now.attributes l (g ++ z) h e _ s c.args.opened.now.place low false _ refl (sym c.if-missing.false ∙ c.missing.ensures))
+    let (s, r) = c.collect-collected.ensures l g z h hg hz e in
+    subst (Judgement (NamesFault (standing_of c.args.node c.args.node_at (givens c.args.at l)))) (sym r ∙ ap fault_of c.in_ok-collected.was)
+    (judged_names c.args.document.now c.args.node c.args.at l (g ++ z) h e _ s c.args.node_at low false _ refl (sym c.if-missing.false ∙ c.missing.ensures))
 
 pub returns-clause-holds : goal.returns-clause-holds
-returns-clause-holds c = λ l g z h hg hz e. slots_filled c.args.document.now c.args.opened.now.node c.args.opened.now.attributes l (g ++ z) h e _ (c.collect-collected.ensures.pass l g z h hg hz e).0
+returns-clause-holds c = λ l g z h hg hz e. slots_filled c.args.document.now c.args.node c.args.at l (g ++ z) h e _ (c.collect-collected.ensures l g z h hg hz e).0

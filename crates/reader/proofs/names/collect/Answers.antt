@@ -11,7 +11,7 @@ use Rattle.reader.proofs.names.collect.Goals as goal
 pub loop-a-preserved : goal.loop-a-preserved
 loop-a-preserved c =
     let h = c.loop-a.invariant in
-    let rs = rows c.args.opened.now.node in
+    let rs = rows c.args.node in
     let told = reads_at c.in-Some.ensures.steps.reads h.same (λ i. c.loop-a.a-iterator.at) in
     let name = part c.args.document.now c.in-Some.a.name in
     let row : c.row_of-row.result ≡ row_at rs 0 name = c.row_of-row.ensures.is ∙ ap (row_at rs 0) c.of.ensures in
@@ -24,7 +24,6 @@ loop-a-preserved c =
     let at : c.next.new.self.at ≡ c.in-Some.a.value.end + 1 = c.in-Some.ensures.steps.next in
     record {
       same = c.in-Some.ensures.steps.same ∙ h.same;
-      document = c.put.ensures.same ∙ h.document;
       pass = λ whole g z k hg hz e.
           let (left, ok, lies, p, q) = h.pass whole g z k hg hz e in
           let t = turn c.args.document.now rs c.loop-a.a-iterator.at c.loop-a.slots.spans c.in-Some.a left g z ok hg hz lies told.attribute told.none in (
@@ -39,10 +38,10 @@ loop-a-preserved c =
           );
     }
 
-pub returns-clause-pass : goal.returns-clause-pass
-returns-clause-pass c = λ whole g z k hg hz e.
+pub returns : goal.returns
+returns c = λ whole g z k hg hz e.
     let h = c.loop-a.invariant in
-    let rs = rows c.args.opened.now.node in
+    let rs = rows c.args.node in
     let told = reads_at c.in-None.ensures.steps.reads h.same (λ i. c.loop-a.a-iterator.at) in
     let (left, ok, lies, p, q) = h.pass whole g z k hg hz e in
     let n = no_attributes c.args.document.now c.loop-a.a-iterator.at left g z ok lies told.attribute in (

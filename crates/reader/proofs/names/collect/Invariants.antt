@@ -11,9 +11,8 @@ use Rattle.reader.proofs.names.collect.Given as goal
 abbrev pub invariant-loop-a : goal.invariant-loop-a
 invariant-loop-a l = record {
   same : l.a-iterator.document.now ≡ l.document;
-  document : l.slots.document.now ≡ l.document;
-  pass : (whole : List Attribute) (g z : List ℕ) → all attribute_ok whole ≡ true → all blank g ≡ true → closes z ≡ true → drop l.opened.attributes l.document ≡ attributes_on whole (g ++ z) →
+  pass : (whole : List Attribute) (g z : List ℕ) → all attribute_ok whole ≡ true → all blank g ≡ true → closes z ≡ true → drop l.at l.document ≡ attributes_on whole (g ++ z) →
       (left : List Attribute) × (all attribute_ok left ≡ true) × (drop l.a-iterator.at l.document ≡ attributes_on left (g ++ z))
-      × (filled (rows l.opened.node) l.slots.spans l.a-iterator.at left ≡ filled (rows l.opened.node) (replicate 22 None) l.opened.attributes whole)
-      × (first_of (fault_of l.refused) (refusing (refusal (rows l.opened.node) l.slots.spans l.a-iterator.at left)) ≡ refusing (refusal (rows l.opened.node) (replicate 22 None) l.opened.attributes whole));
+      × (filled (rows l.node) l.slots.spans l.a-iterator.at left ≡ filled (rows l.node) (replicate 22 None) l.at whole)
+      × (first_of (fault_of l.refused) (refusing (refusal (rows l.node) l.slots.spans l.a-iterator.at left)) ≡ refusing (refusal (rows l.node) (replicate 22 None) l.at whole));
 }

@@ -5,4 +5,4 @@ use Rattle.register.proofs.Asking.{copy_asked}
 use Rattle.register.proofs.Register.fair_copy.Goals as goal
 
 pub returns : goal.returns
-returns g c = copy_asked c.args.self.now g.P.Phase.phase (still_there _ g.P.Phase.answers) (nth_there (texts c.args.self.now) c.args.number _ c.text.result c.in_ok-text.ensures.value c.text.ensures) c.send_to.ensures
+returns g c = copy_asked c.args.self.now g.P.Phase.phase (still_there _ g.P.Phase.answers) (nth_there (texts c.args.self.now) c.args.number _ c.text.result c.in_ok-copy.ensures.value c.text.ensures) c.send_to.ensures

@@ -2,7 +2,7 @@ use Rattle.std.proofs.Common.{◌≡◌, ℕ, ◌-◌, Some, None, Result, Ok, E
 use Rattle.std.specs.Result.{result_ok}
 use Rattle.catalogues.specs.Lines.{last_of}
 use Rattle.catalogues.specs.Ordered.{Sought}
-use Rattle.catalogues.proofs.Answering.{bad_answers, found_in, none_in}
+use Rattle.catalogues.proofs.Answering.{bad_answers, long_answers, found_in, none_in}
 use Rattle.catalogues.proofs.table.CatalogueTextCatalogueSet.decimals.Goals as goal
 
 -- the answer behind what `Result::ok` gives
@@ -35,3 +35,6 @@ returns c =
     let (within, found) = subst (Sought i.text.now i.places i.count _) (ok_behind c.search.result c.in_ok-i.i c.in_ok-i.ensures.value) c.search.ensures in
     ap Some (c.decimals_of.ensures ∙ ap (λ l. last_of l - 48) c.line_from.ensures)
     ∙ found_in c.args.self.now.text.now i.text.now i.at i.places i.count i.order i.indexed same whole c.args.catalogue key c.args.code.now c.name_of.ensures c.in_ok-i.i within found
+
+pub returns-then-code-gt-LONGEST_CODE : goal.returns-then-code-gt-LONGEST_CODE
+returns-then-code-gt-LONGEST_CODE c = sym (long_answers c.args.self.now.text.now c.args.catalogue c.args.code.now c.if-code-gt-LONGEST_CODE.true)
