@@ -70,6 +70,14 @@ impl<'a> Index<'a> {
         places.binary_search_by(|place| compare(key_from(self.text, *place as usize), name, code))
     }
 
+    // Where a key stands that lies in one piece, or where it would stand: one comparison at each line.
+    fn seek(&self, key: &[u8]) -> Result<usize, usize>
+        ensures { Sought self.now.text.now self.now.places self.now.count key.now result }
+    {
+        let lines = &self.places[..self.count];
+        lines.binary_search_by(|line| key_from(self.text, *line as usize).cmp(key))
+    }
+
     // Takes the next line in, where it has no fault.
     fn take_line(&mut self) -> Result<(), Fault>
         requires { self.old.at < length self.old.text.now }
@@ -84,8 +92,9 @@ impl<'a> Index<'a> {
         if end == self.text.len() {
             return Err(bad);
         }
-        let (name, code) = fact(line).ok_or(bad)?;
-        let Err(place) = self.search(name, code) else {
+        fact(line).ok_or(bad)?;
+        let key = key_from(self.text, at);
+        let Err(place) = self.seek(key) else {
             return Err(bad);
         };
         self.places.copy_within(place..self.count, place + 1);
