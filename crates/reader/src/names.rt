@@ -2,7 +2,7 @@
 ghost use Rattle.std.specs.Prelude.{◌≡◌, ℕ, ◌<◌, ◌≤◌, Bool, true, List, ◌++◌, length, drop, replicate, IfSome, IfOk, if◌then◌else◌, Some, None, slice_index_or};
 ghost use Rattle.rules.specs.Bytes.{blank, all};
 ghost use Rattle.rules.specs.Faults.{Judgement, fault_of};
-ghost use Rattle.rules.specs.declared.grounds.Fault.TheVariants.{AttributeRefused};
+ghost use Rattle.rules.specs.declared.grounds.Fault.TheVariants.{AttributeMissing, AttributeRefused};
 ghost use Rattle.rules.specs.Grounds.{rows as rows_of, NamesFault};
 ghost use Rattle.rules.specs.Located.{givens};
 ghost use Rattle.rules.specs.Markup.{Attribute, attribute_ok};
@@ -85,15 +85,23 @@ fn missing(node: Node, slots: &Slots) -> bool
         .any(|(row, slot)| row.required && slot.is_none())
 }
 
-/// Judges the names of the attributes of one tag, which begin at `at`, for a node whose `<` stands at `node_at`; and gives, where they are lawful, a slot for each row. A missing attribute stands at the node's own place, before any that is refused.
+/// The first fault in the names of one tag: a missing attribute stands at the node's own place, before any that is refused.
+fn first_fault(lacking: bool, refused: Result<(), Fault>, node_at: usize) -> Result<(), Fault>
+    ensures { fault_of result ≡ (if lacking then Some (AttributeMissing node_at) else fault_of refused) }
+{
+    if lacking {
+        return Err(Fault::AttributeMissing { place: node_at });
+    }
+    refused
+}
+
+/// Judges the names of the attributes of one tag, which begin at `at`, for a node whose `<` stands at `node_at`; and gives, where they are lawful, a slot for each row.
 pub fn attributes(document: &[u8], node_at: usize, at: usize, node: Node) -> Result<Slots, Fault>
     ensures judges { (l : List Attribute) (g z : List ℕ) → all attribute_ok l ≡ true → all blank g ≡ true → closes z ≡ true → drop at document.now ≡ attributes_on l (g ++ z) → node_at < at → Judgement (NamesFault (standing_of node node_at (givens at l))) (fault_of result) }
     ensures holds { (l : List Attribute) (g z : List ℕ) → all attribute_ok l ≡ true → all blank g ≡ true → closes z ≡ true → drop at document.now ≡ attributes_on l (g ++ z) → IfOk result (λ s. Filled document.now (rows_of node) (givens at l) s.spans) }
 {
     let collected = collect(document, at, node);
-    if missing(node, &collected.slots) {
-        return Err(Fault::AttributeMissing { place: node_at });
-    }
-    collected.refused?;
+    let lacking = missing(node, &collected.slots);
+    first_fault(lacking, collected.refused, node_at)?;
     Ok(collected.slots)
 }
