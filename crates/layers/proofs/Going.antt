@@ -12,7 +12,7 @@ use Rattle.theory.proofs.Compose.{some_nil, Apart}
 use Rattle.theory.specs.Grounds.{Some_of}
 use Rattle.theory.proofs.NodesApart.{InNode, located_apart}
 use Rattle.walk.specs.Events.{start, Occurrence, opened, closed, met_at, met_under, met, told, Found, standings}
-use Rattle.walk.specs.Coming.{Comes, Gives, Meets}
+use Rattle.walk.specs.Coming.{Comes, Gives}
 use Rattle.walk.specs.declared.event.Event.{Event}
 use Rattle.walk.specs.declared.cursor.Walk.{Walk}
 use Rattle.walk.proofs.Stands.{opens_each}
@@ -55,22 +55,22 @@ left_first n P own d m w s c = record {
 
 module _ (n : ℕ) (P : Standing → Fault → Type 0) (d : List ℕ) (whole : List Standing) (w w' : Walk) where
   -- nothing is found where the walk goes on
-  pub left_more : (e : Event) → Meets w (Some e) w' →
+  pub left_more : (e : Event) → w'.document.now ≡ w.document.now → ((os : List Occurrence) → Comes w os → Gives os w.document.now (Some e) w') →
       ((o : Occurrence) → e ≡ told o → Found d o → Starts o → Judgement (Met P o) None) → Left n P d whole w → Left n P d whole w'
-  left_more e step judged h = go h.coming h.starts h.lo h.hi h.apart h.rest (step.gives h.coming h.comes)
+  left_more e s gives judged h = go h.coming h.starts h.lo h.hi h.apart h.rest (gives h.coming h.comes)
     where
       go : (os : List Occurrence) → Each Starts os → (lo hi : ℕ) → Apart n P lo hi (standings os) → ((o : Option Fault) → Judgement (Some_of P (standings os)) o → Judgement (Some_of P whole) o) →
           Gives os w.document.now (Some e) w' → Left n P d whole w'
       go [] u lo hi a t g = let x = g.0 in let z : ◌≡◌ {A = ℕ} 0 1 = cc in absurd (omega arith)
-      go (closed k ∷ os) u lo hi a t (g, f, c) = record { coming = os; same = step.same ∙ h.same; comes = c; starts = u.1; lo = lo; hi = hi; apart = a; rest = t }
+      go (closed k ∷ os) u lo hi a t (g, f, c) = record { coming = os; same = s ∙ h.same; comes = c; starts = u.1; lo = lo; hi = hi; apart = a; rest = t }
       go (opened x ∷ os) u lo hi a t (g, f, c) =
           let q : e ≡ told (opened x) = cc in
-          record { coming = os; same = step.same ∙ h.same; comes = c; starts = u.1; lo = a.0 + 1; hi = hi; apart = a.3; rest = λ o k. t o (rest_judged P (opened_node x) (standings os) (judged (opened x) q (subst (λ y. Found y (opened x)) h.same f) u.0) o k) }
+          record { coming = os; same = s ∙ h.same; comes = c; starts = u.1; lo = a.0 + 1; hi = hi; apart = a.3; rest = λ o k. t o (rest_judged P (opened_node x) (standings os) (judged (opened x) q (subst (λ y. Found y (opened x)) h.same f) u.0) o k) }
 
   -- what is found at the next node is the first fault
-  pub left_found : (e : Event) (r : Fault) → Meets w (Some e) w' →
+  pub left_found : (e : Event) (r : Fault) → ((os : List Occurrence) → Comes w os → Gives os w.document.now (Some e) w') →
       ((o : Occurrence) → e ≡ told o → Found d o → Starts o → FirstOf (Met P o) r) → Left n P d whole w → FirstOf (Some_of P whole) r
-  left_found e r step judged h = go h.coming h.starts h.lo h.hi h.apart h.rest (step.gives h.coming h.comes)
+  left_found e r gives judged h = go h.coming h.starts h.lo h.hi h.apart h.rest (gives h.coming h.comes)
     where
       go : (os : List Occurrence) → Each Starts os → (lo hi : ℕ) → Apart n P lo hi (standings os) → ((o : Option Fault) → Judgement (Some_of P (standings os)) o → Judgement (Some_of P whole) o) →
           Gives os w.document.now (Some e) w' → FirstOf (Some_of P whole) r
@@ -81,8 +81,8 @@ module _ (n : ℕ) (P : Standing → Fault → Type 0) (d : List ℕ) (whole : L
           t (Some r) (first_judged n P lo hi (opened_node x) (standings os) a r (judged (opened x) q (subst (λ y. Found y (opened x)) h.same f) u.0))
 
   -- at the end nothing is left, so nothing is found
-  pub left_none : Meets w None w' → Left n P d whole w → (f : Fault) → Some_of P whole f → ⊥
-  left_none step h = go h.coming h.rest (step.gives h.coming h.comes)
+  pub left_none : ((os : List Occurrence) → Comes w os → Gives os w.document.now None w') → Left n P d whole w → (f : Fault) → Some_of P whole f → ⊥
+  left_none gives h = go h.coming h.rest (gives h.coming h.comes)
     where
       go : (os : List Occurrence) → ((o : Option Fault) → Judgement (Some_of P (standings os)) o → Judgement (Some_of P whole) o) → Gives os w.document.now None w' → (f : Fault) → Some_of P whole f → ⊥
       go [] t g = t None (some_nil P)

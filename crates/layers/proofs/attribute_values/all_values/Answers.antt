@@ -13,12 +13,12 @@ loop-event-init g c =
 
 pub loop-event-preserved : goal.loop-event-preserved
 loop-event-preserved g c = λ m h good.
-    left_more 5 (ValuesFault (g.C.CatalogueSet.facts c.args.set.now)) c.args.document.now (standing (elements_of m)) c.loop-event.event-iterator c.next.new.self c.in-Some.event c.in-Some.ensures.steps c.in_ok-node_values.ensures (c.loop-event.invariant m h good)
+    left_more 5 (ValuesFault (g.C.CatalogueSet.facts c.args.set.now)) c.args.document.now (standing (elements_of m)) c.loop-event.event-iterator c.next.new.self c.in-Some.event c.in-Some.ensures.steps.same c.in-Some.ensures.steps.gives c.in_ok-node_values.ensures (c.loop-event.invariant m h good)
 
 pub returns-in_err-node_values : goal.returns-in_err-node_values
 returns-in_err-node_values g c =
     let told = err_from_is_err_and c.from_residual.result c.from_residual.ensures.1 in
-    rw (told.1, told.2) (λ m h good. left_found 5 (ValuesFault (g.C.CatalogueSet.facts c.args.set.now)) c.args.document.now (standing (elements_of m)) c.loop-event.event-iterator c.next.new.self c.in-Some.event c.in_err-node_values.field-0.0 c.in-Some.ensures.steps c.in_err-node_values.ensures (c.loop-event.invariant m h good))
+    rw (told.1, told.2) (λ m h good. left_found 5 (ValuesFault (g.C.CatalogueSet.facts c.args.set.now)) c.args.document.now (standing (elements_of m)) c.loop-event.event-iterator c.next.new.self c.in-Some.event c.in_err-node_values.field-0.0 c.in-Some.ensures.steps.gives c.in_err-node_values.ensures (c.loop-event.invariant m h good))
 
 pub returns : goal.returns
-returns g c = λ m h good. left_none 5 (ValuesFault (g.C.CatalogueSet.facts c.args.set.now)) c.args.document.now (standing (elements_of m)) c.loop-event.event-iterator c.next.new.self c.in-None.ensures.steps (c.loop-event.invariant m h good)
+returns g c = λ m h good. left_none 5 (ValuesFault (g.C.CatalogueSet.facts c.args.set.now)) c.args.document.now (standing (elements_of m)) c.loop-event.event-iterator c.next.new.self c.in-None.ensures.steps.gives (c.loop-event.invariant m h good)
